@@ -23,7 +23,7 @@ const BRANCHES: Tag = Tag::Relation {
 type Answer = Result<Acquired, Refusal>;
 
 /// What the two threads were answered, turn by turn, and what the manager still had at its end.
-struct Story {
+struct Outcome {
     read: Answer,
     index: Answer,
     write: Answer,
@@ -34,21 +34,21 @@ struct Story {
 
 /// Has two threads play three turns, and prints what both were answered.
 pub fn show<R: Threads + Wait + Sync + Print>(rt: &R, alloc: Global) -> anyhow::Result<()> {
-    let story = tell(rt, alloc)?;
-    print_story(rt, story)?;
+    let outcome = tell(rt, alloc)?;
+    print_outcome(rt, outcome)?;
     Ok(())
 }
 
-/// Prints what the two threads of `story` were answered.
-fn print_story<R: Print>(rt: &R, story: Story) -> io::Result<()> {
-    let Story {
+/// Prints what the two threads of `outcome` were answered.
+fn print_outcome<R: Print>(rt: &R, outcome: Outcome) -> io::Result<()> {
+    let Outcome {
         read,
         index,
         write,
         alter,
         alter_again,
         stood,
-    } = story;
+    } = outcome;
     print_answer(rt, "worker: read accounts", read)?;
     print_answer(rt, "migration: index branches", index)?;
     print_answer(rt, "worker: write accounts", write)?;
@@ -59,7 +59,7 @@ fn print_story<R: Print>(rt: &R, story: Story) -> io::Result<()> {
 }
 
 /// Opens a session for each thread, lends the two out in three turns, and closes them.
-fn tell<R: Threads + Wait + Sync>(rt: &R, alloc: Global) -> Result<Story, Refusal> {
+fn tell<R: Threads + Wait + Sync>(rt: &R, alloc: Global) -> Result<Outcome, Refusal> {
     let config = Config {
         sessions: 2,
         max_local: 16,
@@ -98,7 +98,7 @@ fn tell<R: Threads + Wait + Sync>(rt: &R, alloc: Global) -> Result<Story, Refusa
     // What a session still has is released as it is closed.
     worker.close(rt, &mut opener);
     migration.close(rt, &mut opener);
-    Ok(Story {
+    Ok(Outcome {
         read,
         index,
         write,

@@ -7,7 +7,7 @@ ghost use Rattle.modes_core.specs.Sessions.{usual_sessions};
 
 use crate::progress::{Progress, Unwatched};
 use crate::size::Hammer;
-use crate::workers::{Act, DATABASE, Gate, Reports, all_act};
+use crate::workers::{DATABASE, Gate, Reports, Task, all_work};
 use lock_manager::{
     Audit, Board, Config, Desk, Final, Manager, ManagerDesk, OwnSession, Part, close_sessions,
     open_sessions,
@@ -129,10 +129,10 @@ fn play<
     ensures own { AreOf B.seat (D.manager desk.old) crew.new.items }
     ensures live { D.live desk.new ≡ length crew.new.items }
 {
-    all_act(rt, gate, reports, Act::Rounds(rounds), crew);
+    all_work(rt, gate, reports, Task::Rounds(rounds), crew);
     reports.end()?;
-    all_act(rt, gate, reports, Act::Weak, crew);
-    all_act(rt, gate, reports, Act::Strong, crew);
+    all_work(rt, gate, reports, Task::Weak, crew);
+    all_work(rt, gate, reports, Task::Strong, crew);
     reports.outcome()?;
     match desk.audit(rt, crew) {
         Ok(audit) => print_audit(writer, audit),

@@ -96,7 +96,7 @@ impl<'a, P: Progress> Reports<'a, P> {
 
 /// What all workers do in one part of the hammer.
 #[derive(Clone, Copy, Debug, PartialEq, Eq)]
-pub enum Act {
+pub enum Task {
     /// Each worker asks the gate and plays this number of rounds, beside the others.
     Rounds(u32),
     /// Each worker in turn takes a weak mode.
@@ -110,59 +110,58 @@ fn relation(round: u32) -> Tag {
     Tag::relation(DATABASE, FIRST_RELATION + round % RELATIONS)
 }
 
-/// Has all of `sessions` do `act`, which starts rounds only where `gate` lets the worker pass, and report to `reports`.
-pub fn all_act<B: Board<Part> + Send, G: Gate + Sync, P: Progress + Sync, R: Threads + Wait + Sync>(
-    rt: &R,
-    gate: &G,
-    reports: &Reports<P>,
-    act: Act,
-    sessions: &mut Vec<OwnSession<Part, B>>,
-)
+/// Has all of `sessions` do `task`, which starts rounds only where `gate` lets the worker pass, and report to `reports`.
+pub fn all_work<
+    B: Board<Part> + Send,
+    G: Gate + Sync,
+    P: Progress + Sync,
+    R: Threads + Wait + Sync,
+>(rt: &R, gate: &G, reports: &Reports<P>, task: Task, sessions: &mut Vec<OwnSession<Part, B>>)
     ensures own { KeepManagers B.seat sessions.old.items sessions.new.items }
     ensures as_many { length sessions.new.items ≡ length sessions.old.items }
 {
-    each_acts(rt, gate, reports, act, sessions.as_mut_slice());
+    each_works(rt, gate, reports, task, sessions.as_mut_slice());
 }
 
-/// Has each of `sessions` do `act` and report to `reports`. Rounds are played in as many threads as there are sessions,
+/// Has each of `sessions` do `task` and report to `reports`. Rounds are played in as many threads as there are sessions,
 /// each once `gate` lets the worker pass. All else is done in one thread, in the order of the sessions.
-fn each_acts<B: Board<Part> + Send, G: Gate + Sync, P: Progress + Sync, R: Threads + Wait + Sync>(
+fn each_works<B: Board<Part> + Send, G: Gate + Sync, P: Progress + Sync, R: Threads + Wait + Sync>(
     rt: &R,
     gate: &G,
     reports: &Reports<P>,
-    act: Act,
+    task: Task,
     sessions: &mut [OwnSession<Part, B>],
 )
     ensures own { KeepManagers B.seat sessions.old sessions.new }
 {
-    let threads = match act {
-        Act::Rounds(_) => sessions.len().max(1),
-        Act::Weak | Act::Strong => 1,
+    let threads = match task {
+        Task::Rounds(_) => sessions.len().max(1),
+        Task::Weak | Task::Strong => 1,
     };
     for_each_mut(
         rt,
         sessions,
         threads,
-        &|place, session| play_part(rt, gate, reports, act, place, session),
+        &|place, session| play_part(rt, gate, reports, task, place, session),
     );
 }
 
-/// Has `session`, at `place` among the sessions of the hammer, do its part of `act` and report to `reports`. It plays
+/// Has `session`, at `place` among the sessions of the hammer, do its part of `task` and report to `reports`. It plays
 /// rounds only if `gate` lets it pass.
 fn play_part<B: Board<Part>, G: Gate, P: Progress, R: Wait>(
     rt: &R,
     gate: &G,
     reports: &Reports<P>,
-    act: Act,
+    task: Task,
     place: usize,
     session: &mut OwnSession<Part, B>,
 )
     ensures seat { KeepsSeat B.seat session.old session.new }
 {
-    match act {
-        Act::Rounds(rounds) => work(rt, gate, reports, rounds, session),
-        Act::Weak => take(rt, reports, relation(0), Mode::AccessShare, session),
-        Act::Strong => {
+    match task {
+        Task::Rounds(rounds) => work(rt, gate, reports, rounds, session),
+        Task::Weak => take(rt, reports, relation(0), Mode::AccessShare, session),
+        Task::Strong => {
             if place == 0 {
                 take(rt, reports, relation(1), Mode::Share, session);
             }

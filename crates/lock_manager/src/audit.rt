@@ -14,7 +14,7 @@ use crate::manager::{Manager, Opener};
 use crate::sessions::{OwnSession, Session};
 use lock_table::{NoMemory, TableRow};
 use modes_core::Refusal;
-use shared_rule::{Absent, Audit, Board, Opener as NumberOpener, SeatBoard, SharedWords};
+use shared_rule::{Absent, Audit, Board, SeatBoard, SeatOpener, SharedWords};
 use std::sync::Wait;
 
 impl Manager {
@@ -69,7 +69,7 @@ impl Manager {
 fn audit_all<'a, R: Wait>(
     rt: &R,
     table: &SharedWords<Part>,
-    numbers: &mut NumberOpener<Part>,
+    numbers: &mut SeatOpener<Part>,
     sessions: &mut Vec<Session<'a>>,
     rows: &mut Vec<TableRow>,
 ) -> Result<Audit, NoMemory>
@@ -103,7 +103,7 @@ fn audit_all<'a, R: Wait>(
 // Gathers one more session, with these left.
 fn gather_next<'a>(
     table: &SharedWords<Part>,
-    numbers: &mut NumberOpener<Part>,
+    numbers: &mut SeatOpener<Part>,
     board: SeatBoard<'a, Part>,
     left: &Vec<Session<'a>>,
 ) -> Absent<'a, Part>
@@ -133,7 +133,7 @@ fn gather_next<'a>(
 fn audit_others<'a, R: Wait>(
     rt: &R,
     table: &SharedWords<Part>,
-    numbers: &mut NumberOpener<Part>,
+    numbers: &mut SeatOpener<Part>,
     sessions: &mut Vec<Session<'a>>,
     rows: &mut Vec<TableRow>,
 ) -> Result<Audit, NoMemory>

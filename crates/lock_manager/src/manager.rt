@@ -13,9 +13,7 @@ use crate::keeper::Part;
 use crate::sessions::{Own, OwnSession, Session};
 use lock_table::empty_parts;
 use modes_core::Refusal;
-use shared_rule::{
-    Board, Opener as NumberOpener, SeatBoard, SharedTable, TableSizes, in_shelves, open,
-};
+use shared_rule::{Board, SeatBoard, SeatOpener, SharedTable, TableSizes, in_shelves, open};
 use std::alloc::Global;
 use std::marker::Model;
 
@@ -58,7 +56,7 @@ impl Model for Manager {
 /// how many of these are open, and the histories of those that have closed.
 #[derive(Drop)]
 pub struct Opener {
-    pub(crate) numbers: NumberOpener<Part>,
+    pub(crate) numbers: SeatOpener<Part>,
     issued: u16,
     sessions: u16,
     live: u16,

@@ -1,4 +1,4 @@
-//! Each test makes a manager, tells a story of its sessions, and finishes it.
+//! Each test makes a manager, runs a case at its desk, and finishes it.
 
 ghost use Rattle.std.specs.Prelude.{◌≡◌, IfOk};
 ghost use Rattle.lock_manager.specs.Managers.{IsNew};
@@ -9,12 +9,12 @@ mod asked;
 mod audits;
 mod busy;
 mod busy_lives;
+mod cases;
 mod configurations;
 mod conflicts;
 mod counted;
 mod crews;
 mod crowds;
-mod deeds;
 mod desk;
 mod gates;
 mod lent;
@@ -26,9 +26,9 @@ mod monitors;
 mod pair;
 mod queues;
 mod races;
-mod scenes;
 mod servers;
 mod side_by_side;
+mod tasks;
 mod threads;
 mod turn_lists;
 mod turns;
@@ -39,6 +39,7 @@ mod wakes;
 mod watched;
 mod watches;
 
+use cases::{Case, perform};
 use crews::Crew;
 use limits::Limits;
 use lock_manager::{
@@ -47,7 +48,6 @@ use lock_manager::{
 };
 use pair::Pair;
 use races::Race;
-use scenes::{Scene, perform};
 use shared_rule::Board;
 use std::alloc::Global;
 use std::process::Abort;
@@ -60,8 +60,8 @@ use turn_lists::LISTS;
 
 /// What the sessions of a manager do.
 #[derive(Clone, Copy)]
-enum Story<'a> {
-    OfTwo(Scene<'a>),
+enum DeskCase<'a> {
+    OfTwo(Case<'a>),
     /// One session takes many modes and gives them back, where memory may run out once.
     GoesOn,
     /// Three sessions are lent to audits, where memory may run out once.
@@ -87,34 +87,34 @@ enum Story<'a> {
     BusyLives(u32),
 }
 
-/// Tells `story`, with sessions from `desk`.
+/// Runs `desk_case`, with sessions from `desk`.
 fn tell<
     B: Board<Part> + Send,
     D: Desk<OwnSession<Part, B>> + Send,
     R: Abort + Clock + Threads + Wait + Sync + Print,
->(rt: &R, alloc: Global, desk: &mut D, story: Story<'_>)
+>(rt: &R, alloc: Global, desk: &mut D, desk_case: DeskCase<'_>)
     requires seats { SeatsAre B.seat D.seat }
     ensures manager { D.manager desk.new ≡ D.manager desk.old }
     ensures live { D.live desk.new ≡ D.live desk.old }
 {
-    match story {
-        Story::OfTwo(scene) => {
+    match desk_case {
+        DeskCase::OfTwo(case) => {
             let pair = Pair::open(rt, desk);
             assert_eq!(rt; desk.live(), 2);
-            let pair = perform(rt, pair, scene).meet(desk);
+            let pair = perform(rt, pair, case).meet(desk);
             pair.close(rt, alloc, desk);
         }
-        Story::GoesOn => memory::go_on(rt, desk),
-        Story::Audits => audits::audit_often(rt, alloc, desk),
-        Story::Holds(limits) => limits::hold_all(rt, alloc, desk, limits),
-        Story::OfCrew(crew) => crews::act_at(rt, alloc, desk, crew),
-        Story::SharedByAll(mode) => servers::share_among_all(rt, alloc, desk, mode),
-        Story::LetsHundredsGo => servers::let_hundreds_go(rt, alloc, desk),
-        Story::LendsAll => lent::lend_often(rt, alloc, desk),
-        Story::LetGoByCancel => wakes::let_go_by_a_cancel(rt, alloc, desk),
-        Story::WokenAsAsked => wakes::woken_as_asked(rt, alloc, desk),
-        Story::Lives(lives) => lives::come_and_go(rt, alloc, desk, lives),
-        Story::BusyLives(lives) => busy_lives::come_and_go_beside(rt, alloc, desk, lives),
+        DeskCase::GoesOn => memory::go_on(rt, desk),
+        DeskCase::Audits => audits::audit_often(rt, alloc, desk),
+        DeskCase::Holds(limits) => limits::hold_all(rt, alloc, desk, limits),
+        DeskCase::OfCrew(crew) => crews::act_at(rt, alloc, desk, crew),
+        DeskCase::SharedByAll(mode) => servers::share_among_all(rt, alloc, desk, mode),
+        DeskCase::LetsHundredsGo => servers::let_hundreds_go(rt, alloc, desk),
+        DeskCase::LendsAll => lent::lend_often(rt, alloc, desk),
+        DeskCase::LetGoByCancel => wakes::let_go_by_a_cancel(rt, alloc, desk),
+        DeskCase::WokenAsAsked => wakes::woken_as_asked(rt, alloc, desk),
+        DeskCase::Lives(lives) => lives::come_and_go(rt, alloc, desk, lives),
+        DeskCase::BusyLives(lives) => busy_lives::come_and_go_beside(rt, alloc, desk, lives),
     }
 }
 
@@ -140,29 +140,29 @@ fn make_at_last(alloc: Global, config: Config) -> Result<(Manager, Opener), Refu
     }
 }
 
-/// Tells `story` at `desk`, the desk of a manager.
+/// Runs `desk_case` at `desk`, the desk of a manager.
 fn tell_at<R: Abort + Clock + Threads + Wait + Sync + Print>(
     rt: &R,
     alloc: Global,
     desk: &mut ManagerDesk<'_>,
-    story: Story<'_>,
+    desk_case: DeskCase<'_>,
 )
     ensures manager { desk.new.manager.now ≡ desk.old.manager.now }
     ensures live { desk.new.opener.live ≡ desk.old.opener.live }
 {
-    tell(rt, alloc, desk, story);
+    tell(rt, alloc, desk, desk_case);
 }
 
-/// Tells `story` with a manager of `config` of its own, from the opening of the manager to its end.
+/// Runs `desk_case` with a manager of `config` of its own, from the opening of the manager to its end.
 fn run<R: Abort + Clock + Threads + Wait + Sync + Print>(
     rt: &R,
     alloc: Global,
     config: Config,
-    story: Story<'_>,
+    desk_case: DeskCase<'_>,
 ) -> Result<(), Fail> {
     let (manager, opener) = make_at_last(alloc, config)?;
     let mut desk = ManagerDesk::new(&manager, opener);
-    tell_at(rt, alloc, &mut desk, story);
+    tell_at(rt, alloc, &mut desk, desk_case);
     let opener = desk.into_opener();
     expect_nothing(rt, manager.finish(opener));
     Ok(())
@@ -196,31 +196,31 @@ fn turns_are_answered_as_the_lists_say(rt: HostRuntime) -> Result<(), Fail> {
             max_local: list.max_local,
             slot_groups: 1,
         };
-        let story = Story::OfTwo(Scene::Turns(list.turns, list.rounds));
-        run(&rt, rt.alloc(), config, story)?;
+        let desk_case = DeskCase::OfTwo(Case::Turns(list.turns, list.rounds));
+        run(&rt, rt.alloc(), config, desk_case)?;
     }
     Ok(())
 }
 
 #[test]
-fn two_sessions_do_as_the_scenes_say(rt: HostRuntime) -> Result<(), Fail> {
-    for scene in [
-        Scene::EachModeBesideEach,
-        Scene::LeavesAsAsked,
-        Scene::EndsAllWaits,
-        Scene::CancelsTooLate,
-        Scene::LooksTooLate,
-        Scene::WaitsAsAsked,
-        Scene::WaitsForNothing,
-        Scene::AnsweredAtOnce,
-        Scene::SimpleDeadlock,
-        Scene::Sleeps { asks: false },
-        Scene::Sleeps { asks: true },
-        Scene::ListsMany,
-        Scene::FindsSlotsBusy,
+fn two_sessions_do_as_the_cases_say(rt: HostRuntime) -> Result<(), Fail> {
+    for case in [
+        Case::EachModeBesideEach,
+        Case::LeavesAsAsked,
+        Case::EndsAllWaits,
+        Case::CancelsTooLate,
+        Case::LooksTooLate,
+        Case::WaitsAsAsked,
+        Case::WaitsForNothing,
+        Case::AnsweredAtOnce,
+        Case::SimpleDeadlock,
+        Case::Sleeps { asks: false },
+        Case::Sleeps { asks: true },
+        Case::ListsMany,
+        Case::FindsSlotsBusy,
     ] {
         let config = two(listings::MANY);
-        run(&rt, rt.alloc(), config, Story::OfTwo(scene))?;
+        run(&rt, rt.alloc(), config, DeskCase::OfTwo(case))?;
     }
     Ok(())
 }
@@ -236,8 +236,8 @@ fn a_thousand_races_end_as_one_of_the_two_had_won(rt: HostRuntime) -> Result<(),
         Race::CancelAgainstRelease(Mode::Share, Mode::AccessExclusive),
         Race::AskAgainstSleep,
     ] {
-        let story = Story::OfTwo(Scene::Races(race, rounds));
-        run(&rt, rt.alloc(), two(8), story)?;
+        let desk_case = DeskCase::OfTwo(Case::Races(race, rounds));
+        run(&rt, rt.alloc(), two(8), desk_case)?;
     }
     Ok(())
 }
@@ -264,57 +264,66 @@ fn many_sessions_do_so_where_threads_pause_between_steps(rt: HostRuntime) -> Res
 }
 
 #[test]
-fn many_sessions_do_as_the_stories_say(rt: HostRuntime) -> Result<(), Fail> {
-    for (sessions, story) in [
-        (4, Story::OfCrew(Crew::Asks(4, Plan::of(10_000, 4, false)))),
-        (4, Story::OfCrew(Crew::Asks(4, Plan::of(10_000, 1, false)))),
-        (4, Story::OfCrew(Crew::Asks(4, Plan::of(10_000, 1, true)))),
-        (8, Story::OfCrew(Crew::Asks(8, Plan::of(3_000, 2, true)))),
-        (asked::SESSIONS, Story::OfCrew(Crew::Asked(1_000))),
-        (watches::SESSIONS, Story::OfCrew(Crew::Watch)),
+fn many_sessions_do_as_the_desk_cases_say(rt: HostRuntime) -> Result<(), Fail> {
+    for (sessions, desk_case) in [
+        (
+            4,
+            DeskCase::OfCrew(Crew::Asks(4, Plan::of(10_000, 4, false))),
+        ),
+        (
+            4,
+            DeskCase::OfCrew(Crew::Asks(4, Plan::of(10_000, 1, false))),
+        ),
+        (
+            4,
+            DeskCase::OfCrew(Crew::Asks(4, Plan::of(10_000, 1, true))),
+        ),
+        (8, DeskCase::OfCrew(Crew::Asks(8, Plan::of(3_000, 2, true)))),
+        (asked::SESSIONS, DeskCase::OfCrew(Crew::Asked(1_000))),
+        (watches::SESSIONS, DeskCase::OfCrew(Crew::Watch)),
         (
             queues::MANY + 1,
-            Story::OfCrew(Crew::Queue(Mode::AccessExclusive)),
+            DeskCase::OfCrew(Crew::Queue(Mode::AccessExclusive)),
         ),
         (
             queues::MANY + 1,
-            Story::OfCrew(Crew::Queue(Mode::AccessShare)),
+            DeskCase::OfCrew(Crew::Queue(Mode::AccessShare)),
         ),
         (
             crowds::USUAL.sessions,
-            Story::OfCrew(Crew::Crowd(crowds::USUAL)),
+            DeskCase::OfCrew(Crew::Crowd(crowds::USUAL)),
         ),
-        (3, Story::LetGoByCancel),
-        (2, Story::WokenAsAsked),
-        (1, Story::Lives(10_000)),
-        (busy_lives::SESSIONS, Story::BusyLives(10_000)),
+        (3, DeskCase::LetGoByCancel),
+        (2, DeskCase::WokenAsAsked),
+        (1, DeskCase::Lives(10_000)),
+        (busy_lives::SESSIONS, DeskCase::BusyLives(10_000)),
     ] {
         let config = Config {
             sessions,
             max_local: 8,
             slot_groups: 1,
         };
-        run(&rt, rt.alloc(), config, story)?;
+        run(&rt, rt.alloc(), config, desk_case)?;
     }
     Ok(())
 }
 
 #[test]
 fn a_server_has_a_thousand_sessions(rt: HostRuntime) -> Result<(), Fail> {
-    for story in [
-        Story::SharedByAll(Mode::Share),
-        Story::SharedByAll(Mode::AccessShare),
-        Story::LetsHundredsGo,
-        Story::LendsAll,
-        Story::OfCrew(Crew::Crowd(crowds::ON_ONE_PARTITION)),
-        Story::OfCrew(Crew::Crowd(crowds::AT_ONE_OBJECT)),
+    for desk_case in [
+        DeskCase::SharedByAll(Mode::Share),
+        DeskCase::SharedByAll(Mode::AccessShare),
+        DeskCase::LetsHundredsGo,
+        DeskCase::LendsAll,
+        DeskCase::OfCrew(Crew::Crowd(crowds::ON_ONE_PARTITION)),
+        DeskCase::OfCrew(Crew::Crowd(crowds::AT_ONE_OBJECT)),
     ] {
         let config = Config {
             sessions: MOST_SESSIONS,
             max_local: 8,
             slot_groups: 1,
         };
-        run(&rt, rt.alloc(), config, story)?;
+        run(&rt, rt.alloc(), config, desk_case)?;
     }
     Ok(())
 }
@@ -340,7 +349,7 @@ fn all_local_entries_can_be_held_at_once(rt: HostRuntime) -> Result<(), Fail> {
             max_local: limits.entries,
             slot_groups: 1,
         };
-        run(&rt, rt.alloc(), config, Story::Holds(*limits))?;
+        run(&rt, rt.alloc(), config, DeskCase::Holds(*limits))?;
     }
     Ok(())
 }
@@ -363,13 +372,13 @@ fn sessions_go_on_where_memory_ran_out_once(rt: HostRuntime) -> Result<(), Fail>
         slot_groups: 8,
         ..three
     };
-    for (config, story) in [
-        (one, Story::GoesOn),
-        (three, Story::Audits),
-        (three_in_groups, Story::Audits),
-        (two(memory::MOVED), Story::OfTwo(Scene::MovesAtLast)),
+    for (config, desk_case) in [
+        (one, DeskCase::GoesOn),
+        (three, DeskCase::Audits),
+        (three_in_groups, DeskCase::Audits),
+        (two(memory::MOVED), DeskCase::OfTwo(Case::MovesAtLast)),
     ] {
-        run(&rt, rt.alloc(), config, story)?;
+        run(&rt, rt.alloc(), config, desk_case)?;
     }
     Ok(())
 }

@@ -4,8 +4,8 @@ ghost use Rattle.std.specs.Prelude.{◌≡◌};
 ghost use Rattle.lock_manager.specs.Crews.{KeepsSeat, SeatsAre};
 
 use crate::allocator::{refuse, was_refused};
-use crate::tales::{ANOTHER_TABLE, TABLE, object};
 use crate::told::Told;
+use crate::trials::{ANOTHER_TABLE, TABLE, object};
 use lock_manager::Mode::{AccessShare, RowShare, Share};
 use lock_manager::{Audit, Board, Desk, OwnSession, Owner, PartTable, Refusal, close_sessions};
 use std::alloc::Global;

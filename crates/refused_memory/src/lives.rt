@@ -4,8 +4,8 @@ ghost use Rattle.std.specs.Prelude.{◌≡◌};
 ghost use Rattle.lock_manager.specs.Crews.{AreOf, KeepsSeat, SeatsAre};
 
 use crate::allocator::{refuse_all, was_refused};
-use crate::tales::{ANOTHER_TABLE, DATABASE, TABLE, object};
 use crate::told::Told;
+use crate::trials::{ANOTHER_TABLE, DATABASE, TABLE, object};
 use lock_manager::Mode::{AccessExclusive, Exclusive, RowExclusive};
 use lock_manager::{Acquired, Board, Desk, OwnSession, Owner, PartTable, SessionPool};
 use std::alloc::Global;

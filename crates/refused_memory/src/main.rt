@@ -3,10 +3,11 @@
 //! asked to. Any other one refuses none, and then each call is made once.
 #![tactic(auto)]
 
-mod acts;
 mod allocator;
 mod audits;
 mod calls;
+mod cases;
+mod desk_cases;
 mod events;
 mod lives;
 mod looks;
@@ -14,28 +15,27 @@ mod managers;
 mod pairs;
 mod parts;
 mod steady;
-mod stories;
-mod tales;
 mod telling;
 mod told;
+mod trials;
 
-use acts::Act;
 use allocator::{refuse, was_refused};
 use anyhow::bail;
+use cases::{CASES, Case, tell};
+use desk_cases::DeskCase;
 use std::alloc::Global;
 use std::sync::Wait;
-use stories::{STORIES, Story, tell};
-use tales::TALES;
 use told::Told;
+use trials::TRIALS;
 
 /// How many growths of a call are tried at most.
 const MOST: u16 = 200;
 
-/// How many growths of `story` were refused, one in each run, until a run had none left to refuse. `None` if a run went
+/// How many growths of `case` were refused, one in each run, until a run had none left to refuse. `None` if a run went
 /// otherwise than it is to.
-fn refused_in_turn<R: Wait>(rt: &R, alloc: Global, story: Story<'_>) -> Option<u16> {
+fn refused_in_turn<R: Wait>(rt: &R, alloc: Global, case: Case<'_>) -> Option<u16> {
     for growth in 1..MOST {
-        match tell(rt, alloc, story, growth) {
+        match tell(rt, alloc, case, growth) {
             Told::Answered => return Some(growth - 1),
             Told::Refused => {}
             Told::Otherwise => return None,
@@ -44,17 +44,17 @@ fn refused_in_turn<R: Wait>(rt: &R, alloc: Global, story: Story<'_>) -> Option<u
     None
 }
 
-/// Runs `story`, called `name`, with each of its `growths` growths refused in turn. Where the allocator doesn't listen,
-/// as `listens` says, the story runs once, and none is refused.
+/// Runs `case`, called `name`, with each of its `growths` growths refused in turn. Where the allocator doesn't listen,
+/// as `listens` says, the case runs once, and none is refused.
 fn tell_in_turn<R: Wait + Print>(
     rt: &R,
     alloc: Global,
     listens: bool,
     name: &str,
-    story: Story<'_>,
+    case: Case<'_>,
     growths: u16,
 ) -> anyhow::Result<()> {
-    let Some(refused) = refused_in_turn(rt, alloc, story) else {
+    let Some(refused) = refused_in_turn(rt, alloc, case) else {
         bail!("{name}: it went otherwise");
     };
     if !listens && refused == 0 {
@@ -68,19 +68,19 @@ fn tell_in_turn<R: Wait + Print>(
     Ok(())
 }
 
-/// Runs all stories, with growths refused where the allocator `listens`.
+/// Runs all cases, with growths refused where the allocator `listens`.
 fn tell_all<R: Wait + Print>(rt: &R, alloc: Global, listens: bool) -> anyhow::Result<()> {
-    for (name, story, growths) in &STORIES {
-        tell_in_turn(rt, alloc, listens, name, *story, *growths)?;
+    for (name, case, growths) in &CASES {
+        tell_in_turn(rt, alloc, listens, name, *case, *growths)?;
     }
-    for tale in &TALES {
-        let story = Story::AtDesk(Act::Tells(tale));
-        tell_in_turn(rt, alloc, listens, tale.name, story, tale.growths)?;
+    for trial in &TRIALS {
+        let case = Case::AtDesk(DeskCase::Tells(trial));
+        tell_in_turn(rt, alloc, listens, trial.name, case, trial.growths)?;
     }
     Ok(())
 }
 
-/// Runs all stories by `rt`, and then sessions at work with every growth refused. The error says what went otherwise.
+/// Runs all cases by `rt`, and then sessions at work with every growth refused. The error says what went otherwise.
 fn main(rt: HostRuntime) -> anyhow::Result<()> {
     let listens = refuse(rt.alloc(), 1);
     was_refused(rt.alloc());
@@ -90,14 +90,14 @@ fn main(rt: HostRuntime) -> anyhow::Result<()> {
         println!(rt; "no growth is refused by this allocator")?;
     }
     tell_all(&rt, rt.alloc(), listens)?;
-    if managers::perform(&rt, rt.alloc(), Act::GoesOn, 0) != Told::Answered {
+    if managers::perform(&rt, rt.alloc(), DeskCase::GoesOn, 0) != Told::Answered {
         bail!("sessions that go on: it went otherwise");
     }
     println!(rt;
         "sessions that go on: nothing grew in {} further rounds",
         steady::ROUNDS
     )?;
-    if managers::perform(&rt, rt.alloc(), Act::ComesAndGoes, 0) != Told::Answered {
+    if managers::perform(&rt, rt.alloc(), DeskCase::ComesAndGoes, 0) != Told::Answered {
         bail!("connections that come and go: it went otherwise");
     }
     println!(rt;

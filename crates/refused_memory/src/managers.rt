@@ -1,11 +1,11 @@
-//! A manager for each act, and the calls that make one and a session.
+//! A manager for each desk_case, and the calls that make one and a session.
 
 ghost use Rattle.std.specs.Prelude.{◌≡◌};
 ghost use Rattle.lock_manager.specs.Managers.{IsOpenerOf};
 
-use crate::acts;
-use crate::acts::Act;
 use crate::allocator::{refuse, was_refused};
+use crate::desk_cases;
+use crate::desk_cases::DeskCase;
 use crate::told::Told;
 use lock_manager::{Config, Manager, ManagerDesk, Opener, Refusal};
 use std::alloc::Global;
@@ -19,13 +19,13 @@ const CONFIG: Config = Config {
 
 const DATABASE: u32 = 5;
 
-/// Does `act` at the desk of a manager of its own, with the growth numbered `growth` refused.
-pub fn perform<R: Wait>(rt: &R, alloc: Global, act: Act<'_>, growth: u16) -> Told {
+/// Does `desk_case` at the desk of a manager of its own, with the growth numbered `growth` refused.
+pub fn perform<R: Wait>(rt: &R, alloc: Global, desk_case: DeskCase<'_>, growth: u16) -> Told {
     let Ok((manager, opener)) = Manager::new(alloc, CONFIG) else {
         return Told::Otherwise;
     };
     let mut desk = ManagerDesk::new(&manager, opener);
-    let told = perform_at(rt, alloc, &mut desk, act, growth);
+    let told = perform_at(rt, alloc, &mut desk, desk_case, growth);
     let opener = desk.into_opener();
     if opener.live() == 0 {
         manager.finish(opener);
@@ -34,19 +34,19 @@ pub fn perform<R: Wait>(rt: &R, alloc: Global, act: Act<'_>, growth: u16) -> Tol
     Told::Otherwise
 }
 
-/// Does `act` at `desk`, with the growth numbered `growth` refused. This function alone names the board of the shared
+/// Does `desk_case` at `desk`, with the growth numbered `growth` refused. This function alone names the board of the shared
 /// table.
 fn perform_at<R: Wait>(
     rt: &R,
     alloc: Global,
     desk: &mut ManagerDesk<'_>,
-    act: Act<'_>,
+    desk_case: DeskCase<'_>,
     growth: u16,
 ) -> Told
     requires none_live { desk.old.opener.live ≡ 0 }
     ensures manager { desk.new.manager.now ≡ desk.old.manager.now }
 {
-    acts::perform(rt, alloc, desk, act, growth)
+    desk_cases::perform(rt, alloc, desk, desk_case, growth)
 }
 
 /// Makes a manager with the growth numbered `growth` refused.

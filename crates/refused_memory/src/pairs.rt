@@ -3,7 +3,7 @@
 ghost use Rattle.std.specs.Prelude.{◌≡◌, IfSome};
 ghost use Rattle.lock_manager.specs.Crews.{IsOf, SeatsAre};
 
-use crate::tales::DATABASE;
+use crate::trials::DATABASE;
 use lock_manager::{Board, Desk, OwnSession, PartTable};
 use std::sync::Wait;
 

@@ -4,8 +4,8 @@ ghost use Rattle.std.specs.Prelude.{◌≡◌, None, OnErr};
 ghost use Rattle.lock_table.specs.Parts.{IsBlank};
 
 use crate::allocator::{refuse, was_refused};
-use crate::tales::OBJECT;
 use crate::told::Told;
+use crate::trials::OBJECT;
 use local_locks::LocalTable;
 use lock_manager::{Mode, Owner, PartTable, Refusal, SessionId, TableRow, Tag};
 use lock_records::RecordPart;

@@ -5,8 +5,8 @@ ghost use Rattle.lock_manager.specs.Crews.{KeepsSeat, SeatsAre};
 
 use crate::allocator::{refuse_all, was_refused};
 use crate::pairs::open_pair;
-use crate::tales::{ANOTHER_TABLE, Hold, OBJECT, TABLE, object};
 use crate::told::Told;
+use crate::trials::{ANOTHER_TABLE, Hold, OBJECT, TABLE, object};
 use lock_manager::Mode::{AccessExclusive, AccessShare, Exclusive, RowExclusive, Share};
 use lock_manager::{
     Acquired, Board, Desk, OwnSession, OwnWaiting, Owner, PartTable, Polled, Refusal, Started,

@@ -1,12 +1,12 @@
-//! Tales that are run at a desk, over any board.
+//! Trials that are run at a desk, over any board.
 
 ghost use Rattle.std.specs.Prelude.{◌≡◌, ◌≤◌};
 ghost use Rattle.lock_manager.specs.Crews.{IsOf, KeepsSeat, SeatsAre};
 
 use crate::allocator::{refuse, was_refused};
 use crate::calls::{Answer, end_wait, make, queue};
-use crate::tales::{DATABASE, Hold, TABLE, Tale, object};
 use crate::told::Told;
+use crate::trials::{DATABASE, Hold, TABLE, Trial, object};
 use lock_manager::{Board, Desk, Listing, Mode, OwnSession, Owner, PartTable, SlotRow, TableRow};
 use std::alloc::Global;
 use std::sync::Wait;
@@ -79,12 +79,12 @@ fn take_own<T: PartTable, B: Board<T>, R: Wait>(rt: &R, session: &mut OwnSession
     }
 }
 
-/// Makes the call of `tale` with `session` and the growth numbered `growth` refused, and once more after a refusal.
+/// Makes the call of `trial` with `session` and the growth numbered `growth` refused, and once more after a refusal.
 fn ask<T: PartTable, B: Board<T>, R: Wait>(
     rt: &R,
     alloc: Global,
     session: OwnSession<T, B>,
-    tale: &Tale,
+    trial: &Trial,
     growth: u16,
 ) -> (OwnSession<T, B>, Told)
     ensures seat { KeepsSeat B.seat session result.0 }
@@ -92,29 +92,29 @@ fn ask<T: PartTable, B: Board<T>, R: Wait>(
     let mut session = session;
     let before = see(rt, &mut session);
     refuse(alloc, growth);
-    let (mut session, answer) = make(rt, session, tale.call);
+    let (mut session, answer) = make(rt, session, trial.call);
     let refused = was_refused(alloc);
     if !refused {
         return (
             session,
-            Told::of(false, answer.ran_out(), answer == tale.answer),
+            Told::of(false, answer.ran_out(), answer == trial.answer),
         );
     }
     let same = see(rt, &mut session) == before;
-    let (session, again) = make(rt, session, tale.call);
-    let is_right = same && again == tale.answer;
+    let (session, again) = make(rt, session, trial.call);
+    let is_right = same && again == trial.answer;
     (session, Told::of(true, answer.ran_out(), is_right))
 }
 
-/// Opens at `desk` `waiters` sessions, each of which waits for an object that `session`, the asking one of `tale`, has,
-/// or all for the awaited object of `tale`. Once all of them wait, `session` asks, with the growth numbered `growth`
+/// Opens at `desk` `waiters` sessions, each of which waits for an object that `session`, the asking one of `trial`, has,
+/// or all for the awaited object of `trial`. Once all of them wait, `session` asks, with the growth numbered `growth`
 /// refused.
 fn with_waiters<T: PartTable, B: Board<T>, D: Desk<OwnSession<T, B>>, R: Wait>(
     rt: &R,
     alloc: Global,
     desk: &mut D,
     session: OwnSession<T, B>,
-    tale: &Tale,
+    trial: &Trial,
     waiters: u32,
     growth: u16,
 ) -> (OwnSession<T, B>, Told)
@@ -123,15 +123,15 @@ fn with_waiters<T: PartTable, B: Board<T>, D: Desk<OwnSession<T, B>>, R: Wait>(
     ensures manager { D.manager desk.new ≡ D.manager desk.old }
 {
     if waiters == 0 {
-        return ask(rt, alloc, session, tale, growth);
+        return ask(rt, alloc, session, trial, growth);
     }
     let Ok(waiter) = desk.open(DATABASE) else {
         return (session, Told::Otherwise);
     };
-    let awaited = tale.awaited.unwrap_or(object(waiters - 1));
+    let awaited = trial.awaited.unwrap_or(object(waiters - 1));
     match queue(rt, waiter, awaited) {
         Ok(waiting) => {
-            let answered = with_waiters(rt, alloc, desk, session, tale, waiters - 1, growth);
+            let answered = with_waiters(rt, alloc, desk, session, trial, waiters - 1, growth);
             desk.close(rt, end_wait(rt, waiting));
             answered
         }
@@ -156,13 +156,13 @@ fn take<T: PartTable, B: Board<T>, R: Wait>(
     }
 }
 
-/// Opens at `desk` the other sessions of `tale` from `place` on, which take what they are to have, and after them the
+/// Opens at `desk` the other sessions of `trial` from `place` on, which take what they are to have, and after them the
 /// asking one, which takes its own objects and asks with the growth numbered `growth` refused.
 fn with_others<T: PartTable, B: Board<T>, D: Desk<OwnSession<T, B>>, R: Wait>(
     rt: &R,
     alloc: Global,
     desk: &mut D,
-    tale: &Tale,
+    trial: &Trial,
     place: usize,
     growth: u16,
 ) -> Told
@@ -174,27 +174,27 @@ fn with_others<T: PartTable, B: Board<T>, D: Desk<OwnSession<T, B>>, R: Wait>(
         return Told::Otherwise;
     };
     if place == 3 {
-        take_own(rt, &mut session, tale.own);
-        let (session, told) = with_waiters(rt, alloc, desk, session, tale, tale.waiters, growth);
+        take_own(rt, &mut session, trial.own);
+        let (session, told) = with_waiters(rt, alloc, desk, session, trial, trial.waiters, growth);
         desk.close(rt, session);
         return told;
     }
-    let has = take(rt, &mut session, tale.others[place]);
-    let told = with_others(rt, alloc, desk, tale, place + 1, growth);
+    let has = take(rt, &mut session, trial.others[place]);
+    let told = with_others(rt, alloc, desk, trial, place + 1, growth);
     desk.close(rt, session);
     if has { told } else { Told::Otherwise }
 }
 
-/// Runs `tale` at `desk`, which has nothing yet, with the growth numbered `growth` refused.
+/// Runs `trial` at `desk`, which has nothing yet, with the growth numbered `growth` refused.
 pub fn tell<T: PartTable, B: Board<T>, D: Desk<OwnSession<T, B>>, R: Wait>(
     rt: &R,
     alloc: Global,
     desk: &mut D,
-    tale: &Tale,
+    trial: &Trial,
     growth: u16,
 ) -> Told
     requires seats { SeatsAre B.seat D.seat }
     ensures manager { D.manager desk.new ≡ D.manager desk.old }
 {
-    with_others(rt, alloc, desk, tale, 0, growth)
+    with_others(rt, alloc, desk, trial, 0, growth)
 }

@@ -13,7 +13,7 @@ pub enum Told {
 }
 
 impl Told {
-    /// How a story went: whether a growth was refused (`was_refused`), whether the call answered that memory ran out
+    /// How a case went: whether a growth was refused (`was_refused`), whether the call answered that memory ran out
     /// (`ran_out`), and whether all the rest was right (`is_right`).
     pub fn of(was_refused: bool, ran_out: bool, is_right: bool) -> Told {
         match (was_refused, ran_out, is_right) {

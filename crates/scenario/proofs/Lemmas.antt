@@ -1,5 +1,5 @@
 -- The lemmas that proofs of several functions share.
-pub mod Deeds
+pub mod Actions
 pub mod Numbers
 pub mod Hearing
 pub mod InTurn

@@ -21,10 +21,10 @@ use Rattle.scenario.specs.declared.answers.Answer.{Answer}
 use Rattle.scenario.specs.declared.answers.Answer.TheVariants as answer
 use Rattle.scenario.specs.declared.answers.Row.TheVariants as row
 use Rattle.scenario.specs.declared.answers.Said.TheVariants as said
-use Rattle.scenario.specs.declared.sessions.Deed.{Deed}
-use Rattle.scenario.specs.declared.sessions.Deed.TheVariants as deed
+use Rattle.scenario.specs.declared.sessions.Action.{Action}
+use Rattle.scenario.specs.declared.sessions.Action.TheVariants as action
 use Rattle.scenario.specs.Answered.{AcquiresAt, CallsAt, ClosesAt, WaitsAt}
-use Rattle.scenario.specs.Calls.{IsDeedOf}
+use Rattle.scenario.specs.Calls.{IsActionOf}
 use Rattle.scenario.specs.Numbers.{IsNamed}
 
 -- What a command is answered, and what it leaves of a script's sessions.
@@ -76,21 +76,21 @@ module _
     {B : Type 0} (seat : B → Seated) (view : B → Account) (stack : B → Stack) (again : Bool) (database_of : SessionView B → ℕ) (entries : SessionView B → List Entry)
     (old new : Cast B) where
   -- The sessions are left as the library's call leaves them, and its answer is told.
-  abbrev pub IsDone : Deed → Answer → Type 0
-  IsDone (deed.Open name database) it = Opens seat again database_of entries old new name database it ⊎ OpensNone old new name it
-  IsDone (deed.Name name tag) it =
+  abbrev pub IsDone : Action → Answer → Type 0
+  IsDone (action.Open name database) it = Opens seat again database_of entries old new name database it ⊎ OpensNone old new name it
+  IsDone (action.Name name tag) it =
       NamesObject old.names.objects new.names.objects name tag it × (new.names.sessions ≡ old.names.sessions) × (new.sessions ≡ old.sessions)
-  IsDone (deed.Close caller) it = ClosesAt seat view stack old.sessions new.sessions caller it × (new.names ≡ old.names)
-  IsDone (deed.Lock target owner) it =
+  IsDone (action.Close caller) it = ClosesAt seat view stack old.sessions new.sessions caller it × (new.names ≡ old.names)
+  IsDone (action.Lock target owner) it =
       (AcquiresAt seat view stack old.sessions new.sessions target owner it ⊎ WaitsAt seat view stack old.sessions new.sessions target owner it)
       × (new.names ≡ old.names)
-  IsDone (deed.Make caller call) it = CallsAt seat view stack old.sessions new.sessions caller call it × (new.names ≡ old.names)
-  IsDone (deed.Hash tag) it = (it ≡ answer.Row (row.Hash tag)) × (new ≡ old)
+  IsDone (action.Make caller call) it = CallsAt seat view stack old.sessions new.sessions caller call it × (new.names ≡ old.names)
+  IsDone (action.Hash tag) it = (it ≡ answer.Row (row.Hash tag)) × (new ≡ old)
 
   -- The command was carried out by the call that it is, and this is its answer.
   pub record Answers (command : Command) (it : Answer) : Type 0 where
     pub number : ℕ
     pub other : IsOtherOf seat old.sessions command number
-    pub deed : Deed
-    pub which : IsDeedOf command number deed
-    pub done : IsDone deed it
+    pub action : Action
+    pub which : IsActionOf command number action
+    pub done : IsDone action it

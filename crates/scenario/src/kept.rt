@@ -76,13 +76,13 @@ impl<T: PartTable, B: Board<T>, D: ScriptDesk<OwnSession<T, B>>, L: Listener> Sc
         keeping: Keeping,
     ) -> Result<(), Fault>
         requires seats { SeatsAre B.seat D.seat }
-        ensures manager { D.manager self.new.stage.desk ≡ D.manager self.old.stage.desk }
-        ensures none_waits { self.new.stage.sessions.waiting ≡ [] }
-        ensures none_open { self.new.stage.sessions.resting ≡ [] }
-        ensures none_live { D.live self.new.stage.desk ≡ 0 }
+        ensures manager { D.manager self.new.state.desk ≡ D.manager self.old.state.desk }
+        ensures none_waits { self.new.state.sessions.waiting ≡ [] }
+        ensures none_open { self.new.state.sessions.resting ≡ [] }
+        ensures none_live { D.live self.new.state.desk ≡ 0 }
     {
         let ended = self.run_keeping(rt, reader, keeping);
-        self.stage.close_all(rt);
+        self.state.close_all(rt);
         ended
     }
 
@@ -96,7 +96,7 @@ impl<T: PartTable, B: Board<T>, D: ScriptDesk<OwnSession<T, B>>, L: Listener> Sc
         keeping: Keeping,
     ) -> Result<(), Fault>
         requires seats { SeatsAre B.seat D.seat }
-        ensures manager { D.manager self.new.stage.desk ≡ D.manager self.old.stage.desk }
+        ensures manager { D.manager self.new.state.desk ≡ D.manager self.old.state.desk }
     {
         let mut lines = LineReader::new(reader);
         let mut kept = KeptLines::new(keeping.alloc);
@@ -132,12 +132,12 @@ impl<T: PartTable, B: Board<T>, D: ScriptDesk<OwnSession<T, B>>, L: Listener> Sc
     ) -> Result<(), Fault>
         requires seats { SeatsAre B.seat D.seat }
         ensures taken { OnOk result (TakesIn (RunsLine B.seat B.view B.stack D.again D.database_of D.entries)
-            (record { sessions = self.old.stage.sessions; names = self.old.stage.names }) kept.old
+            (record { sessions = self.old.state.sessions; names = self.old.state.names }) kept.old
             (record { number = line.entry.number; text = line.entry.text.now })
-            (record { sessions = self.new.stage.sessions; names = self.new.stage.names }) kept.new) }
-        ensures manager { D.manager self.new.stage.desk ≡ D.manager self.old.stage.desk }
+            (record { sessions = self.new.state.sessions; names = self.new.state.names }) kept.new) }
+        ensures manager { D.manager self.new.state.desk ≡ D.manager self.old.state.desk }
     {
-        match kept.session_before(line.text, &self.stage.sessions) {
+        match kept.session_before(line.text, &self.state.sessions) {
             Some(session) => self.keep(alloc, kept, session, line),
             None => {
                 self.run_line(rt, line.number, line.text, line.more)?;
@@ -155,11 +155,11 @@ impl<T: PartTable, B: Board<T>, D: ScriptDesk<OwnSession<T, B>>, L: Listener> Sc
         line: ReadLine<'_>,
     ) -> Result<(), Fault>
         ensures kept { OnOk result (IsKept kept.old (record { number = line.entry.number; text = line.entry.text.now }) kept.new) }
-        ensures stage { self.new.stage ≡ self.old.stage }
-        ensures manager { D.manager self.new.stage.desk ≡ D.manager self.old.stage.desk }
+        ensures state { self.new.state ≡ self.old.state }
+        ensures manager { D.manager self.new.state.desk ≡ D.manager self.old.state.desk }
     {
-        let stage = &self.stage;
-        let defect = kept.defect(alloc, line.text, &stage.sessions, &stage.names.objects);
+        let state = &self.state;
+        let defect = kept.defect(alloc, line.text, &state.sessions, &state.names.objects);
         let more = line.more && matches!(&defect, Ok(None));
         self.listener.keep_line(line.number, line.text, more)?;
         kept_or_fault(alloc, kept, session, line, defect)
@@ -175,12 +175,12 @@ impl<T: PartTable, B: Board<T>, D: ScriptDesk<OwnSession<T, B>>, L: Listener> Sc
     ) -> Result<(), Fault>
         requires seats { SeatsAre B.seat D.seat }
         ensures ran { OnOk result (RunsKept (RunsLine B.seat B.view B.stack D.again D.database_of D.entries)
-            (record { sessions = self.old.stage.sessions; names = self.old.stage.names }) kept.old
-            (record { sessions = self.new.stage.sessions; names = self.new.stage.names }) kept.new) }
-        ensures manager { D.manager self.new.stage.desk ≡ D.manager self.old.stage.desk }
+            (record { sessions = self.old.state.sessions; names = self.old.state.names }) kept.old
+            (record { sessions = self.new.state.sessions; names = self.new.state.names }) kept.new) }
+        ensures manager { D.manager self.new.state.desk ≡ D.manager self.old.state.desk }
     {
         'ready: for _ in 0..kept.len() {
-            let Some((_, line)) = kept.take_ready(&self.stage.sessions) else {
+            let Some((_, line)) = kept.take_ready(&self.state.sessions) else {
                 break;
             };
             self.run_line(rt, line.number, line.text.as_str(), more)?;
@@ -190,10 +190,10 @@ impl<T: PartTable, B: Board<T>, D: ScriptDesk<OwnSession<T, B>>, L: Listener> Sc
 
     /// Tells the listener who waits at the end of the script, and how many lines of `kept` were not reached.
     pub(crate) fn tell_left(&mut self, alloc: Global, kept: &KeptLines) -> Result<(), Fault>
-        ensures manager { D.manager self.new.stage.desk ≡ D.manager self.old.stage.desk }
+        ensures manager { D.manager self.new.state.desk ≡ D.manager self.old.state.desk }
     {
-        let stage = &self.stage;
-        match names_in(alloc, &stage.sessions.waiting) {
+        let state = &self.state;
+        match names_in(alloc, &state.sessions.waiting) {
             Ok(waiting) => self.listener.left(waiting.as_slice(), kept.len() as u64),
             Err(_) => Err(Fault::NoMemory),
         }

@@ -30,7 +30,7 @@ pub use output::Output;
 pub use picture::Picture;
 pub use run::Scene;
 pub use runs::{run_before, run_script, run_styled_script};
-pub use sessions::{Deed, Stage};
+pub use sessions::{Action, ScriptState};
 pub use style::{DRAWINGS, Drawing, Form, Pen, Style};
 pub use summary::{Obstacle, Summary, WaitEnd, WaitRow};
 pub use text::{RowText, SaidText, refusal_text};

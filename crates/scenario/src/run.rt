@@ -12,7 +12,7 @@ use crate::answers::{Answer, Said};
 use crate::desks::ScriptDesk;
 use crate::listener::{Listener, tell_answer};
 use crate::runs::Manner;
-use crate::sessions::Stage;
+use crate::sessions::ScriptState;
 use lock_manager::{OwnSession, TableRow};
 use lock_script::{Caller, Command, Fault, LineReader, Name, parse};
 use lock_table::PartTable;
@@ -23,7 +23,7 @@ use std::sync::Wait;
 
 /// What the lines of a script act on: a desk with its sessions, and who hears the answers.
 pub struct Scene<T: PartTable, B: Board<T>, D: ScriptDesk<OwnSession<T, B>>, L: Listener> {
-    pub stage: Stage<T, B, D>,
+    pub state: ScriptState<T, B, D>,
     pub listener: L,
 }
 
@@ -37,12 +37,12 @@ impl<T: PartTable, B: Board<T>, D: ScriptDesk<OwnSession<T, B>>, L: Listener> Sc
         requires few { (D.manager desk).limit ≤ usual_sessions }
         requires none_issued { D.issued desk ≡ 0 }
         requires none_live { D.live desk ≡ 0 }
-        ensures desk { IfOk result (λ scene. scene.stage.desk ≡ desk) }
-        ensures none_waits { IfOk result (λ scene. scene.stage.sessions.waiting ≡ []) }
-        ensures none_open { IfOk result (λ scene. scene.stage.sessions.resting ≡ []) }
+        ensures desk { IfOk result (λ scene. scene.state.desk ≡ desk) }
+        ensures none_waits { IfOk result (λ scene. scene.state.sessions.waiting ≡ []) }
+        ensures none_open { IfOk result (λ scene. scene.state.sessions.resting ≡ []) }
     {
-        let stage = Stage::new(alloc, desk)?;
-        Ok(Scene { stage, listener })
+        let state = ScriptState::new(alloc, desk)?;
+        Ok(Scene { state, listener })
     }
 
     /// Plays the script that `reader` gives: runs its lines one by one, to their end or to the first fault, and then
@@ -50,14 +50,14 @@ impl<T: PartTable, B: Board<T>, D: ScriptDesk<OwnSession<T, B>>, L: Listener> Sc
     pub fn play<H: Wait, R: Read + Drop>(&mut self, rt: &H, reader: R) -> Result<(), Fault>
         requires seats { SeatsAre B.seat D.seat }
         ensures played { IsScriptHeard B.seat B.view B.stack D.again D.database_of D.entries L.hears (R.remaining reader)
-            (record { sessions = self.old.stage.sessions; names = self.old.stage.names }) self.old.listener result self.new.listener }
-        ensures manager { D.manager self.new.stage.desk ≡ D.manager self.old.stage.desk }
-        ensures none_waits { self.new.stage.sessions.waiting ≡ [] }
-        ensures none_open { self.new.stage.sessions.resting ≡ [] }
-        ensures none_live { D.live self.new.stage.desk ≡ 0 }
+            (record { sessions = self.old.state.sessions; names = self.old.state.names }) self.old.listener result self.new.listener }
+        ensures manager { D.manager self.new.state.desk ≡ D.manager self.old.state.desk }
+        ensures none_waits { self.new.state.sessions.waiting ≡ [] }
+        ensures none_open { self.new.state.sessions.resting ≡ [] }
+        ensures none_live { D.live self.new.state.desk ≡ 0 }
     {
         let ended = self.run_lines(rt, reader);
-        self.stage.close_all(rt);
+        self.state.close_all(rt);
         ended
     }
 
@@ -69,10 +69,10 @@ impl<T: PartTable, B: Board<T>, D: ScriptDesk<OwnSession<T, B>>, L: Listener> Sc
         manner: Manner,
     ) -> Result<(), Fault>
         requires seats { SeatsAre B.seat D.seat }
-        ensures manager { D.manager self.new.stage.desk ≡ D.manager self.old.stage.desk }
-        ensures none_waits { self.new.stage.sessions.waiting ≡ [] }
-        ensures none_open { self.new.stage.sessions.resting ≡ [] }
-        ensures none_live { D.live self.new.stage.desk ≡ 0 }
+        ensures manager { D.manager self.new.state.desk ≡ D.manager self.old.state.desk }
+        ensures none_waits { self.new.state.sessions.waiting ≡ [] }
+        ensures none_open { self.new.state.sessions.resting ≡ [] }
+        ensures none_live { D.live self.new.state.desk ≡ 0 }
     {
         match manner {
             Manner::Script => self.play_out(rt, reader),
@@ -83,41 +83,41 @@ impl<T: PartTable, B: Board<T>, D: ScriptDesk<OwnSession<T, B>>, L: Listener> Sc
     /// Plays the script that `reader` gives as `play` does, and tells the listener that the script has ended before the sessions are closed.
     fn play_out<H: Wait, R: Read + Drop>(&mut self, rt: &H, reader: R) -> Result<(), Fault>
         requires seats { SeatsAre B.seat D.seat }
-        ensures manager { D.manager self.new.stage.desk ≡ D.manager self.old.stage.desk }
-        ensures none_waits { self.new.stage.sessions.waiting ≡ [] }
-        ensures none_open { self.new.stage.sessions.resting ≡ [] }
-        ensures none_live { D.live self.new.stage.desk ≡ 0 }
+        ensures manager { D.manager self.new.state.desk ≡ D.manager self.old.state.desk }
+        ensures none_waits { self.new.state.sessions.waiting ≡ [] }
+        ensures none_open { self.new.state.sessions.resting ≡ [] }
+        ensures none_live { D.live self.new.state.desk ≡ 0 }
     {
         let ended = match self.run_lines(rt, reader) {
             Ok(()) => self.tell_end(rt, false),
             Err(fault) => Err(fault),
         };
-        self.stage.close_all(rt);
+        self.state.close_all(rt);
         ended
     }
 
     /// Draws who waits for whom at the end of the script, where the listener wants that, and tells the listener that the script has ended. Where
     /// `tells_left`, the listener hears next who is left waiting.
     pub(crate) fn tell_end<H: Wait>(&mut self, rt: &H, tells_left: bool) -> Result<(), Fault>
-        ensures manager { D.manager self.new.stage.desk ≡ D.manager self.old.stage.desk }
+        ensures manager { D.manager self.new.state.desk ≡ D.manager self.old.state.desk }
     {
         if let Some(pen) = self.listener.last_pen() {
-            let Ok(picture) = self.stage.last_picture(rt, pen) else {
+            let Ok(picture) = self.state.last_picture(rt, pen) else {
                 return Err(Fault::NoMemory);
             };
-            let stage = &self.stage;
-            self.listener.picture(&stage.names, &picture)?;
+            let state = &self.state;
+            self.listener.picture(&state.names, &picture)?;
         }
-        let stage = &self.stage;
-        self.listener.ended(&stage.names, tells_left)
+        let state = &self.state;
+        self.listener.ended(&state.names, tells_left)
     }
 
     /// Runs the lines of `reader`, to the end of the script or to the first fault.
     fn run_lines<H: Wait, R: Read + Drop>(&mut self, rt: &H, reader: R) -> Result<(), Fault>
         requires seats { SeatsAre B.seat D.seat }
         ensures played { IsScriptHeard B.seat B.view B.stack D.again D.database_of D.entries L.hears (R.remaining reader)
-            (record { sessions = self.old.stage.sessions; names = self.old.stage.names }) self.old.listener result self.new.listener }
-        ensures manager { D.manager self.new.stage.desk ≡ D.manager self.old.stage.desk }
+            (record { sessions = self.old.state.sessions; names = self.old.state.names }) self.old.listener result self.new.listener }
+        ensures manager { D.manager self.new.state.desk ≡ D.manager self.old.state.desk }
     {
         let mut lines = LineReader::new(reader);
         'lines: while let Some(line) = lines.next_line()? {
@@ -139,15 +139,15 @@ impl<T: PartTable, B: Board<T>, D: ScriptDesk<OwnSession<T, B>>, L: Listener> Sc
         requires seats { SeatsAre B.seat D.seat }
         ensures played { OnOk result (Hears L.hears self.old.listener self.new.listener (λ heard.
             PlaysLine B.seat B.view B.stack D.again D.database_of D.entries number
-            (record { sessions = self.old.stage.sessions; names = self.old.stage.names }) line.now heard
-            (record { sessions = self.new.stage.sessions; names = self.new.stage.names }))) }
+            (record { sessions = self.old.state.sessions; names = self.old.state.names }) line.now heard
+            (record { sessions = self.new.state.sessions; names = self.new.state.names }))) }
         ensures bad { IfErr result (λ fault. IsBadLine L.hears number
-            (record { sessions = self.old.stage.sessions; names = self.old.stage.names }) self.old.listener line.now fault
-            (record { sessions = self.new.stage.sessions; names = self.new.stage.names }) self.new.listener) }
-        ensures manager { D.manager self.new.stage.desk ≡ D.manager self.old.stage.desk }
+            (record { sessions = self.old.state.sessions; names = self.old.state.names }) self.old.listener line.now fault
+            (record { sessions = self.new.state.sessions; names = self.new.state.names }) self.new.listener) }
+        ensures manager { D.manager self.new.state.desk ≡ D.manager self.old.state.desk }
     {
-        let stage = &self.stage;
-        let parsed = parse(line, &stage.sessions, &stage.names.objects);
+        let state = &self.state;
+        let parsed = parse(line, &state.sessions, &state.names.objects);
         self.listener
             .begin_line(number, line, more && parsed.is_ok())?;
         match parsed {
@@ -160,20 +160,20 @@ impl<T: PartTable, B: Board<T>, D: ScriptDesk<OwnSession<T, B>>, L: Listener> Sc
     /// Runs `command` and then polls those who wait, and tells the listener the answer and who goes on.
     pub fn run<H: Wait>(&mut self, rt: &H, command: Command) -> Result<(), Fault>
         requires seats { SeatsAre B.seat D.seat }
-        requires addressed { Addresses self.old.stage.sessions command }
+        requires addressed { Addresses self.old.state.sessions command }
         requires counter { NamesCounter command }
-        requires free { NamesFree self.old.stage.names.objects command }
+        requires free { NamesFree self.old.state.names.objects command }
         ensures played { OnOk result (Hears L.hears self.old.listener self.new.listener (λ heard.
             Plays B.seat B.view B.stack D.again D.database_of D.entries
-            (record { sessions = self.old.stage.sessions; names = self.old.stage.names }) command heard
-            (record { sessions = self.new.stage.sessions; names = self.new.stage.names }))) }
+            (record { sessions = self.old.state.sessions; names = self.old.state.names }) command heard
+            (record { sessions = self.new.state.sessions; names = self.new.state.names }))) }
         ensures unheard { IfErr result IsUnheard }
-        ensures manager { D.manager self.new.stage.desk ≡ D.manager self.old.stage.desk }
+        ensures manager { D.manager self.new.state.desk ≡ D.manager self.old.state.desk }
     {
         let lister = lister_of(&command);
-        let answer = self.stage.answer(rt, command);
-        let stage = &self.stage;
-        tell_answer(&mut self.listener, &stage.names, &answer)?;
+        let answer = self.state.answer(rt, command);
+        let state = &self.state;
+        tell_answer(&mut self.listener, &state.names, &answer)?;
         self.follow_up(rt, lister, &answer)?;
         self.poll_all(rt)?;
         self.listener.end_line()
@@ -189,10 +189,10 @@ impl<T: PartTable, B: Board<T>, D: ScriptDesk<OwnSession<T, B>>, L: Listener> Sc
     ) -> Result<(), Fault>
         ensures followed { OnOk result (Hears L.hears self.old.listener self.new.listener (λ more.
             Follows B.seat B.view B.stack answer.now
-            (record { sessions = self.old.stage.sessions; names = self.old.stage.names }) more
-            (record { sessions = self.new.stage.sessions; names = self.new.stage.names }))) }
+            (record { sessions = self.old.state.sessions; names = self.old.state.names }) more
+            (record { sessions = self.new.state.sessions; names = self.new.state.names }))) }
         ensures unheard { IfErr result IsUnheard }
-        ensures manager { D.manager self.new.stage.desk ≡ D.manager self.old.stage.desk }
+        ensures manager { D.manager self.new.state.desk ≡ D.manager self.old.state.desk }
     {
         if let Some(name) = waiter_of(answer) {
             return self.tell_wait(rt, name);
@@ -209,21 +209,21 @@ impl<T: PartTable, B: Board<T>, D: ScriptDesk<OwnSession<T, B>>, L: Listener> Sc
     fn tell_wait<H: Wait>(&mut self, rt: &H, name: Name) -> Result<(), Fault>
         ensures told { OnOk result (Hears L.hears self.old.listener self.new.listener (λ more.
             TellsWait B.seat B.view B.stack name
-            (record { sessions = self.old.stage.sessions; names = self.old.stage.names }) more
-            (record { sessions = self.new.stage.sessions; names = self.new.stage.names }))) }
+            (record { sessions = self.old.state.sessions; names = self.old.state.names }) more
+            (record { sessions = self.new.state.sessions; names = self.new.state.names }))) }
         ensures unheard { IfErr result IsUnheard }
-        ensures manager { D.manager self.new.stage.desk ≡ D.manager self.old.stage.desk }
+        ensures manager { D.manager self.new.state.desk ≡ D.manager self.old.state.desk }
     {
         if !self.listener.wants_waits() {
             return Ok(());
         }
-        let Some(place) = self.stage.sessions.waiting.place_called(&name) else {
+        let Some(place) = self.state.sessions.waiting.place_called(&name) else {
             return Ok(());
         };
-        match self.stage.blocked(rt, place) {
+        match self.state.blocked(rt, place) {
             Ok(blocked) => {
-                let stage = &self.stage;
-                self.listener.blocked(&stage.names, &blocked)
+                let state = &self.state;
+                self.listener.blocked(&state.names, &blocked)
             }
             Err(_) => Err(Fault::NoMemory),
         }
@@ -232,26 +232,26 @@ impl<T: PartTable, B: Board<T>, D: ScriptDesk<OwnSession<T, B>>, L: Listener> Sc
     /// Draws who waits for whom, by the `rows` of a listing that `caller` asked for, if the listener wants that.
     fn draw<H: Wait>(&mut self, rt: &H, caller: Caller, rows: &[TableRow]) -> Result<(), Fault>
         ensures drawn { OnOk result (Hears L.hears self.old.listener self.new.listener (λ picture. DrawsPicture
-            (record { sessions = self.old.stage.sessions; names = self.old.stage.names }) picture
-            (record { sessions = self.new.stage.sessions; names = self.new.stage.names }))) }
+            (record { sessions = self.old.state.sessions; names = self.old.state.names }) picture
+            (record { sessions = self.new.state.sessions; names = self.new.state.names }))) }
         ensures unheard { IfErr result IsUnheard }
-        ensures manager { D.manager self.new.stage.desk ≡ D.manager self.old.stage.desk }
+        ensures manager { D.manager self.new.state.desk ≡ D.manager self.old.state.desk }
     {
         let Some(pen) = self.listener.pen() else {
             return Ok(());
         };
-        if caller.place >= self.stage.sessions.resting.len() {
+        if caller.place >= self.state.sessions.resting.len() {
             return Ok(());
         }
-        match self.stage.picture(rt, caller.place, pen, rows) {
+        match self.state.picture(rt, caller.place, pen, rows) {
             Ok(picture) => {
-                let stage = &self.stage;
-                self.listener.picture(&stage.names, &picture)
+                let state = &self.state;
+                self.listener.picture(&state.names, &picture)
             }
             Err(refusal) => {
-                let stage = &self.stage;
+                let state = &self.state;
                 self.listener
-                    .said(&stage.names, caller.name, Said::Refused(refusal))
+                    .said(&state.names, caller.name, Said::Refused(refusal))
             }
         }
     }
@@ -260,10 +260,10 @@ impl<T: PartTable, B: Board<T>, D: ScriptDesk<OwnSession<T, B>>, L: Listener> Sc
     /// leaves fewer who wait.
     fn poll_all<H: Wait>(&mut self, rt: &H) -> Result<(), Fault>
         ensures settled { OnOk result (Hears L.hears self.old.listener self.new.listener (λ news. Settles B.seat B.view B.stack
-            (record { sessions = self.old.stage.sessions; names = self.old.stage.names }) news
-            (record { sessions = self.new.stage.sessions; names = self.new.stage.names }))) }
+            (record { sessions = self.old.state.sessions; names = self.old.state.names }) news
+            (record { sessions = self.new.state.sessions; names = self.new.state.names }))) }
         ensures unheard { IfErr result IsUnheard }
-        ensures manager { D.manager self.new.stage.desk ≡ D.manager self.old.stage.desk }
+        ensures manager { D.manager self.new.state.desk ≡ D.manager self.old.state.desk }
     {
         'passes: while self.poll_each(rt)? {}
         Ok(())
@@ -272,16 +272,16 @@ impl<T: PartTable, B: Board<T>, D: ScriptDesk<OwnSession<T, B>>, L: Listener> Sc
     /// Polls each session that waits, in the byte order of their names, and answers whether one went on.
     fn poll_each<H: Wait>(&mut self, rt: &H) -> Result<bool, Fault>
         ensures passed { IfOk result (λ went_on. IsPassHeard B.seat B.view B.stack L.hears
-            (record { sessions = self.old.stage.sessions; names = self.old.stage.names }) self.old.listener went_on
-            (record { sessions = self.new.stage.sessions; names = self.new.stage.names }) self.new.listener) }
+            (record { sessions = self.old.state.sessions; names = self.old.state.names }) self.old.listener went_on
+            (record { sessions = self.new.state.sessions; names = self.new.state.names }) self.new.listener) }
         ensures fewer { result ≡ Ok true →
-            length self.new.stage.sessions.waiting < length self.old.stage.sessions.waiting }
+            length self.new.state.sessions.waiting < length self.old.state.sessions.waiting }
         ensures unheard { IfErr result IsUnheard }
-        ensures manager { D.manager self.new.stage.desk ≡ D.manager self.old.stage.desk }
+        ensures manager { D.manager self.new.state.desk ≡ D.manager self.old.state.desk }
     {
         let mut went_on = false;
         let mut place = 0;
-        'places: while place < self.stage.sessions.waiting.len() {
+        'places: while place < self.state.sessions.waiting.len() {
             if self.poll(rt, place)? {
                 went_on = true;
             } else {
@@ -294,21 +294,21 @@ impl<T: PartTable, B: Board<T>, D: ScriptDesk<OwnSession<T, B>>, L: Listener> Sc
     /// Polls the session at `place` of those that wait, carries a cancel out that was asked, and answers
     /// whether the session goes on.
     fn poll<H: Wait>(&mut self, rt: &H, place: usize) -> Result<bool, Fault>
-        requires { place < length self.old.stage.sessions.waiting }
+        requires { place < length self.old.state.sessions.waiting }
         ensures fewer { result ≡ Ok true →
-            length self.new.stage.sessions.waiting < length self.old.stage.sessions.waiting }
-        ensures no_more { length self.new.stage.sessions.waiting ≤ length self.old.stage.sessions.waiting }
+            length self.new.state.sessions.waiting < length self.old.state.sessions.waiting }
+        ensures no_more { length self.new.state.sessions.waiting ≤ length self.old.state.sessions.waiting }
         ensures polled { IfOk result (λ went_on. IsPollHeard B.seat B.view B.stack L.hears
-            (record { sessions = self.old.stage.sessions; names = self.old.stage.names }) self.old.listener place went_on
-            (record { sessions = self.new.stage.sessions; names = self.new.stage.names }) self.new.listener) }
+            (record { sessions = self.old.state.sessions; names = self.old.state.names }) self.old.listener place went_on
+            (record { sessions = self.new.state.sessions; names = self.new.state.names }) self.new.listener) }
         ensures unheard { IfErr result IsUnheard }
-        ensures manager { D.manager self.new.stage.desk ≡ D.manager self.old.stage.desk }
+        ensures manager { D.manager self.new.state.desk ≡ D.manager self.old.state.desk }
     {
-        match self.stage.poll(rt, place) {
+        match self.state.poll(rt, place) {
             None => Ok(false),
             Some((name, said)) => {
-                let stage = &self.stage;
-                self.listener.said(&stage.names, name, said)?;
+                let state = &self.state;
+                self.listener.said(&state.names, name, said)?;
                 Ok(true)
             }
         }

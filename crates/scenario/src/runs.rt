@@ -9,7 +9,7 @@ use crate::desks::{OnceDesk, ReusingDesk};
 use crate::listener::Listener;
 use crate::output::Output;
 use crate::run::Scene;
-use crate::sessions::Stage;
+use crate::sessions::ScriptState;
 use crate::style::Style;
 use lock_manager::{Config, Desk, Manager, ManagerDesk, OwnSession, SessionPool};
 use lock_script::{Fault, Names, OpenSessions};
@@ -163,12 +163,12 @@ fn play_once<
 {
     let mut scene = Scene::new(alloc, OnceDesk { desk }, listener)?;
     let ended = scene.act_out(rt, reader, manner);
-    let Scene { stage, listener: _ } = scene;
-    let Stage {
+    let Scene { state, listener: _ } = scene;
+    let ScriptState {
         desk,
         names: _,
         sessions,
-    } = stage;
+    } = state;
     sessions.finish();
     Ok((desk.desk, ended))
 }
@@ -190,21 +190,21 @@ impl<T: PartTable, B: Board<T>, D: Desk<OwnSession<T, B>>, L: Listener> Scene<
         requires few { (D.manager desk).limit ≤ usual_sessions }
         requires none_issued { D.issued desk ≡ 0 }
         requires none_live { D.live desk ≡ 0 }
-        ensures desk { IfOk result (λ scene. scene.stage.desk.desk ≡ desk) }
-        ensures none_waits { IfOk result (λ scene. scene.stage.sessions.waiting ≡ []) }
-        ensures none_open { IfOk result (λ scene. scene.stage.sessions.resting ≡ []) }
+        ensures desk { IfOk result (λ scene. scene.state.desk.desk ≡ desk) }
+        ensures none_waits { IfOk result (λ scene. scene.state.sessions.waiting ≡ []) }
+        ensures none_open { IfOk result (λ scene. scene.state.sessions.resting ≡ []) }
     {
         let sessions = OpenSessions::new(alloc)?;
         let Ok(pool) = SessionPool::new(alloc) else {
             sessions.finish();
             return Err(AllocError);
         };
-        let stage = Stage {
+        let state = ScriptState {
             desk: ReusingDesk { desk, pool },
             names: Names::new(alloc),
             sessions,
         };
-        Ok(Scene { stage, listener })
+        Ok(Scene { state, listener })
     }
 }
 
@@ -234,12 +234,12 @@ fn play_reusing<
 {
     let mut scene = Scene::reusing(alloc, desk, listener)?;
     let ended = scene.act_out(rt, reader, manner);
-    let Scene { stage, listener: _ } = scene;
-    let Stage {
+    let Scene { state, listener: _ } = scene;
+    let ScriptState {
         desk,
         names: _,
         sessions,
-    } = stage;
+    } = state;
     sessions.finish();
     let ReusingDesk { mut desk, pool } = desk;
     pool.end(rt, &mut desk);

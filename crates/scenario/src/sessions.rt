@@ -8,7 +8,7 @@ ghost use Rattle.scenario.specs.Answered.{AcquiresAt, CallsAt, ClosesAt, PollsAt
 ghost use Rattle.scenario.specs.Answers.{Answers, IsNumberAt, IsOtherOf, NamesObject, Opens, OpensNone};
 ghost use Rattle.lock_manager.specs.Sessions.{SessionView};
 ghost use Rattle.lock_script.specs.Lending.{with_session};
-ghost use Rattle.scenario.specs.Calls.{IsDeedOf, ShowsCounter};
+ghost use Rattle.scenario.specs.Calls.{IsActionOf, ShowsCounter};
 ghost use Rattle.modes_core.specs.Sessions.{usual_sessions};
 ghost use Rattle.scenario.specs.Numbers.{IsKnown};
 
@@ -31,7 +31,7 @@ use std::sync::Wait;
 
 /// What a command of a script has a session or the script do.
 #[derive(Clone, Copy, Debug, PartialEq, Eq)]
-pub enum Deed {
+pub enum Action {
     /// A session of this name and database is opened.
     Open(Name, u32),
     /// An object is given a name.
@@ -47,46 +47,46 @@ pub enum Deed {
 }
 
 /// What `command` comes to, where the other session that it names, if it names one, has the number `other`.
-pub fn deed_of(command: Command, other: SessionId) -> Deed
-    ensures { IsDeedOf command other result }
+pub fn action_of(command: Command, other: SessionId) -> Action
+    ensures { IsActionOf command other result }
 {
     match command {
-        Command::Session { name, database } => Deed::Open(name, database),
-        Command::Name { name, tag } => Deed::Name(name, tag),
-        Command::Close(caller) => Deed::Close(caller),
-        Command::Lock(target, owner) => Deed::Lock(target, owner),
-        Command::Hash(tag) => Deed::Hash(tag),
+        Command::Session { name, database } => Action::Open(name, database),
+        Command::Name { name, tag } => Action::Name(name, tag),
+        Command::Close(caller) => Action::Close(caller),
+        Command::Lock(target, owner) => Action::Lock(target, owner),
+        Command::Hash(tag) => Action::Hash(tag),
         Command::Try(target, owner) => {
-            Deed::Make(target.caller, Call::Try(target.tag, target.mode, owner))
+            Action::Make(target.caller, Call::Try(target.tag, target.mode, owner))
         }
         Command::Fast(target, owner) => {
-            Deed::Make(target.caller, Call::Fast(target.tag, target.mode, owner))
+            Action::Make(target.caller, Call::Fast(target.tag, target.mode, owner))
         }
         Command::Unlock(target, owner) => {
-            Deed::Make(target.caller, Call::Unlock(target.tag, target.mode, owner))
+            Action::Make(target.caller, Call::Unlock(target.tag, target.mode, owner))
         }
-        Command::UnlockAll(caller) => Deed::Make(caller, Call::UnlockAll),
-        Command::Commit(caller) => Deed::Make(caller, Call::Commit),
-        Command::Abort(caller) => Deed::Make(caller, Call::Abort),
-        Command::Begin(caller) => Deed::Make(caller, Call::Begin),
-        Command::SubCommit(caller) => Deed::Make(caller, Call::SubCommit),
-        Command::SubAbort(caller) => Deed::Make(caller, Call::SubAbort),
-        Command::Owned(target) => Deed::Make(target.caller, Call::Owned(target.tag, target.mode)),
+        Command::UnlockAll(caller) => Action::Make(caller, Call::UnlockAll),
+        Command::Commit(caller) => Action::Make(caller, Call::Commit),
+        Command::Abort(caller) => Action::Make(caller, Call::Abort),
+        Command::Begin(caller) => Action::Make(caller, Call::Begin),
+        Command::SubCommit(caller) => Action::Make(caller, Call::SubCommit),
+        Command::SubAbort(caller) => Action::Make(caller, Call::SubAbort),
+        Command::Owned(target) => Action::Make(target.caller, Call::Owned(target.tag, target.mode)),
         Command::Waiters(target) => {
-            Deed::Make(target.caller, Call::Waiters(target.tag, target.mode))
+            Action::Make(target.caller, Call::Waiters(target.tag, target.mode))
         }
-        Command::Queue(caller, tag) => Deed::Make(caller, Call::Queue(tag)),
-        Command::Blockers(by, it, tag) => Deed::Make(by, Call::Blockers(it.name, other, tag)),
-        Command::Cancel(by, it) => Deed::Make(by, Call::Cancel(it.name, other)),
-        Command::List(caller) => Deed::Make(caller, Call::List),
-        Command::Count(caller, index) => Deed::Make(caller, Call::Count(index)),
+        Command::Queue(caller, tag) => Action::Make(caller, Call::Queue(tag)),
+        Command::Blockers(by, it, tag) => Action::Make(by, Call::Blockers(it.name, other, tag)),
+        Command::Cancel(by, it) => Action::Make(by, Call::Cancel(it.name, other)),
+        Command::List(caller) => Action::Make(caller, Call::List),
+        Command::Count(caller, index) => Action::Make(caller, Call::Count(index)),
     }
 }
 
 /// What a script acts on: a desk that opens sessions, the names of sessions by the numbers that the desk gave out, the names of objects, and the open
 /// sessions. Each open session is one of the desk's manager, which has `USUAL_SESSIONS` at most, under a number that the desk gave out, and the desk
-/// counts the open sessions. The stage is taken apart at its end, once no session is open.
-pub struct Stage<T: PartTable, B: Board<T>, D: ScriptDesk<OwnSession<T, B>>> {
+/// counts the open sessions. The state is taken apart at its end, once no session is open.
+pub struct ScriptState<T: PartTable, B: Board<T>, D: ScriptDesk<OwnSession<T, B>>> {
     pub desk: D,
     pub names: Names,
     pub sessions: OpenSessions<OwnSession<T, B>, OwnWaiting<T, B>>,
@@ -99,10 +99,10 @@ pub struct Stage<T: PartTable, B: Board<T>, D: ScriptDesk<OwnSession<T, B>>> {
     ghost waiting: { All (λ one. IsKnown (B.seat one.session.board) (D.manager desk) (D.issued desk)) sessions.waiting },
 }
 
-impl<T: PartTable, B: Board<T>, D: ScriptDesk<OwnSession<T, B>>> Stage<T, B, D> {
+impl<T: PartTable, B: Board<T>, D: ScriptDesk<OwnSession<T, B>>> ScriptState<T, B, D> {
     ghost use Rattle.lock_script.specs.Sessions.{IsThere, MayAct};
 
-    /// A stage of `desk`, at which no session was opened yet. The desk is let go where there is no memory for the list of
+    /// The state of a script that acts on `desk`, of which no session was opened yet. The desk is let go where there is no memory for the list of
     /// sessions.
     pub fn new(alloc: Global, desk: D) -> Result<Self, AllocError>
     where
@@ -110,12 +110,12 @@ impl<T: PartTable, B: Board<T>, D: ScriptDesk<OwnSession<T, B>>> Stage<T, B, D> 
         requires few { (D.manager desk).limit ≤ usual_sessions }
         requires none_issued { D.issued desk ≡ 0 }
         requires none_live { D.live desk ≡ 0 }
-        ensures desk { IfOk result (λ stage. stage.desk ≡ desk) }
-        ensures none_waits { IfOk result (λ stage. stage.sessions.waiting ≡ []) }
-        ensures none_open { IfOk result (λ stage. stage.sessions.resting ≡ []) }
+        ensures desk { IfOk result (λ state. state.desk ≡ desk) }
+        ensures none_waits { IfOk result (λ state. state.sessions.waiting ≡ []) }
+        ensures none_open { IfOk result (λ state. state.sessions.resting ≡ []) }
     {
         let sessions = OpenSessions::new(alloc)?;
-        Ok(Stage {
+        Ok(ScriptState {
             desk,
             names: Names::new(alloc),
             sessions,
@@ -134,13 +134,13 @@ impl<T: PartTable, B: Board<T>, D: ScriptDesk<OwnSession<T, B>>> Stage<T, B, D> 
         ensures manager { D.manager self.new.desk ≡ D.manager self.old.desk }
     {
         let other = self.other_of(&command);
-        match deed_of(command, other) {
-            Deed::Open(name, database) => self.open(rt, name, database),
-            Deed::Name(name, tag) => self.name_object(name, tag),
-            Deed::Close(caller) => self.close(rt, caller),
-            Deed::Lock(target, owner) => self.lock(rt, target, owner),
-            Deed::Make(caller, call) => self.call(rt, caller, call),
-            Deed::Hash(tag) => Answer::Row(Row::Hash(tag)),
+        match action_of(command, other) {
+            Action::Open(name, database) => self.open(rt, name, database),
+            Action::Name(name, tag) => self.name_object(name, tag),
+            Action::Close(caller) => self.close(rt, caller),
+            Action::Lock(target, owner) => self.lock(rt, target, owner),
+            Action::Make(caller, call) => self.call(rt, caller, call),
+            Action::Hash(tag) => Answer::Row(Row::Hash(tag)),
         }
     }
 

@@ -66,10 +66,10 @@ impl<T: PartTable, B: Board<T>, D: ScriptDesk<OwnSession<T, B>>, L: Listener> Sc
     ) -> Result<(), Fault>
         requires seats { SeatsAre B.seat D.seat }
         ensures done { OnOk result (DoesLine (RunsLine B.seat B.view B.stack D.again D.database_of D.entries) (λ cast. cast.names.objects)
-            (record { sessions = self.old.stage.sessions; names = self.old.stage.names }) kept.old
+            (record { sessions = self.old.state.sessions; names = self.old.state.names }) kept.old
             (record { number = line.entry.number; text = line.entry.text.now }) heard.now
-            (record { sessions = self.new.stage.sessions; names = self.new.stage.names }) kept.new) }
-        ensures manager { D.manager self.new.stage.desk ≡ D.manager self.old.stage.desk }
+            (record { sessions = self.new.state.sessions; names = self.new.state.names }) kept.new) }
+        ensures manager { D.manager self.new.state.desk ≡ D.manager self.old.state.desk }
     {
         match heard {
             Heard::Plain => self.run_plain(rt, keeping, kept, line),
@@ -91,10 +91,10 @@ impl<T: PartTable, B: Board<T>, D: ScriptDesk<OwnSession<T, B>>, L: Listener> Sc
     ) -> Result<(), Fault>
         requires seats { SeatsAre B.seat D.seat }
         ensures taken { OnOk result (TakesIn (RunsLine B.seat B.view B.stack D.again D.database_of D.entries)
-            (record { sessions = self.old.stage.sessions; names = self.old.stage.names }) kept.old
+            (record { sessions = self.old.state.sessions; names = self.old.state.names }) kept.old
             (record { number = line.entry.number; text = line.entry.text.now })
-            (record { sessions = self.new.stage.sessions; names = self.new.stage.names }) kept.new) }
-        ensures manager { D.manager self.new.stage.desk ≡ D.manager self.old.stage.desk }
+            (record { sessions = self.new.state.sessions; names = self.new.state.names }) kept.new) }
+        ensures manager { D.manager self.new.state.desk ≡ D.manager self.old.state.desk }
     {
         if keeping.keeps {
             return self.take_in(rt, keeping.alloc, kept, line);
@@ -105,8 +105,8 @@ impl<T: PartTable, B: Board<T>, D: ScriptDesk<OwnSession<T, B>>, L: Listener> Sc
 
     /// Tells the listener `line`, which asks for nothing by itself.
     fn show_line(&mut self, line: ReadLine<'_>) -> Result<(), Fault>
-        ensures stage { self.new.stage ≡ self.old.stage }
-        ensures manager { D.manager self.new.stage.desk ≡ D.manager self.old.stage.desk }
+        ensures state { self.new.state ≡ self.old.state }
+        ensures manager { D.manager self.new.state.desk ≡ D.manager self.old.state.desk }
     {
         self.listener.begin_line(line.number, line.text, line.more)?;
         self.listener.end_line()
@@ -123,10 +123,10 @@ impl<T: PartTable, B: Board<T>, D: ScriptDesk<OwnSession<T, B>>, L: Listener> Sc
     ) -> Result<(), Fault>
         requires seats { SeatsAre B.seat D.seat }
         ensures played { OnOk result (PlaysStatements (RunsLine B.seat B.view B.stack D.again D.database_of D.entries) (λ cast. cast.names.objects)
-            (record { sessions = self.old.stage.sessions; names = self.old.stage.names }) kept.old line.entry.number
+            (record { sessions = self.old.state.sessions; names = self.old.state.names }) kept.old line.entry.number
             (string_bytes statements.now.session) statements.now.turns.items
-            (record { sessions = self.new.stage.sessions; names = self.new.stage.names }) kept.new) }
-        ensures manager { D.manager self.new.stage.desk ≡ D.manager self.old.stage.desk }
+            (record { sessions = self.new.state.sessions; names = self.new.state.names }) kept.new) }
+        ensures manager { D.manager self.new.state.desk ≡ D.manager self.old.state.desk }
     {
         self.name_tables(rt, alloc, line, &statements.turns)?;
         let session = statements.session.as_str();
@@ -147,10 +147,10 @@ impl<T: PartTable, B: Board<T>, D: ScriptDesk<OwnSession<T, B>>, L: Listener> Sc
     ) -> Result<(), Fault>
         requires seats { SeatsAre B.seat D.seat }
         ensures taken { OnOk result (TakesInEach (RunsLine B.seat B.view B.stack D.again D.database_of D.entries)
-            (record { sessions = self.old.stage.sessions; names = self.old.stage.names }) kept.old
+            (record { sessions = self.old.state.sessions; names = self.old.state.names }) kept.old
             (lines_at line.entry.number (map string_bytes texts.now.items))
-            (record { sessions = self.new.stage.sessions; names = self.new.stage.names }) kept.new) }
-        ensures manager { D.manager self.new.stage.desk ≡ D.manager self.old.stage.desk }
+            (record { sessions = self.new.state.sessions; names = self.new.state.names }) kept.new) }
+        ensures manager { D.manager self.new.state.desk ≡ D.manager self.old.state.desk }
     {
         'texts: for text in texts {
             let next = ReadLine {
@@ -173,9 +173,9 @@ impl<T: PartTable, B: Board<T>, D: ScriptDesk<OwnSession<T, B>>, L: Listener> Sc
     ) -> Result<(), Fault>
         requires seats { SeatsAre B.seat D.seat }
         ensures named { OnOk result (NamesTables (RunsLine B.seat B.view B.stack D.again D.database_of D.entries) (λ cast. cast.names.objects)
-            (record { sessions = self.old.stage.sessions; names = self.old.stage.names }) line.entry.number (tables_in turns.now.items)
-            (record { sessions = self.new.stage.sessions; names = self.new.stage.names })) }
-        ensures manager { D.manager self.new.stage.desk ≡ D.manager self.old.stage.desk }
+            (record { sessions = self.old.state.sessions; names = self.old.state.names }) line.entry.number (tables_in turns.now.items)
+            (record { sessions = self.new.state.sessions; names = self.new.state.names })) }
+        ensures manager { D.manager self.new.state.desk ≡ D.manager self.old.state.desk }
     {
         'turns: for turn in turns {
             self.name_each(rt, alloc, line, &turn.named)?;
@@ -193,9 +193,9 @@ impl<T: PartTable, B: Board<T>, D: ScriptDesk<OwnSession<T, B>>, L: Listener> Sc
     ) -> Result<(), Fault>
         requires seats { SeatsAre B.seat D.seat }
         ensures named { OnOk result (NamesTables (RunsLine B.seat B.view B.stack D.again D.database_of D.entries) (λ cast. cast.names.objects)
-            (record { sessions = self.old.stage.sessions; names = self.old.stage.names }) line.entry.number tables.now.items
-            (record { sessions = self.new.stage.sessions; names = self.new.stage.names })) }
-        ensures manager { D.manager self.new.stage.desk ≡ D.manager self.old.stage.desk }
+            (record { sessions = self.old.state.sessions; names = self.old.state.names }) line.entry.number tables.now.items
+            (record { sessions = self.new.state.sessions; names = self.new.state.names })) }
+        ensures manager { D.manager self.new.state.desk ≡ D.manager self.old.state.desk }
     {
         'tables: for table in tables {
             self.name_table(rt, alloc, line, table)?;
@@ -213,11 +213,11 @@ impl<T: PartTable, B: Board<T>, D: ScriptDesk<OwnSession<T, B>>, L: Listener> Sc
     ) -> Result<(), Fault>
         requires seats { SeatsAre B.seat D.seat }
         ensures named { OnOk result (NamesTable (RunsLine B.seat B.view B.stack D.again D.database_of D.entries) (λ cast. cast.names.objects)
-            (record { sessions = self.old.stage.sessions; names = self.old.stage.names }) line.entry.number table.now
-            (record { sessions = self.new.stage.sessions; names = self.new.stage.names })) }
-        ensures manager { D.manager self.new.stage.desk ≡ D.manager self.old.stage.desk }
+            (record { sessions = self.old.state.sessions; names = self.old.state.names }) line.entry.number table.now
+            (record { sessions = self.new.state.sessions; names = self.new.state.names })) }
+        ensures manager { D.manager self.new.state.desk ≡ D.manager self.old.state.desk }
     {
-        if may_be_named(&self.stage.names.objects, table) {
+        if may_be_named(&self.state.names.objects, table) {
             self.run_naming(rt, alloc, line, table)
         } else {
             Ok(())
@@ -234,10 +234,10 @@ impl<T: PartTable, B: Board<T>, D: ScriptDesk<OwnSession<T, B>>, L: Listener> Sc
     ) -> Result<(), Fault>
         requires seats { SeatsAre B.seat D.seat }
         ensures ran { OnOk result (RunsLine B.seat B.view B.stack D.again D.database_of D.entries
-            (record { sessions = self.old.stage.sessions; names = self.old.stage.names })
+            (record { sessions = self.old.state.sessions; names = self.old.state.names })
             (record { number = line.entry.number; text = name_line table.now })
-            (record { sessions = self.new.stage.sessions; names = self.new.stage.names })) }
-        ensures manager { D.manager self.new.stage.desk ≡ D.manager self.old.stage.desk }
+            (record { sessions = self.new.state.sessions; names = self.new.state.names })) }
+        ensures manager { D.manager self.new.state.desk ≡ D.manager self.old.state.desk }
     {
         let name = table.name.as_str();
         let tag = table.tag;
@@ -249,7 +249,7 @@ impl<T: PartTable, B: Board<T>, D: ScriptDesk<OwnSession<T, B>>, L: Listener> Sc
 
     /// The fault of the line of the number `number`, whose SQL can't be played. The listener hears why, `unplayed`, in place of the line.
     pub(crate) fn refuse(&mut self, number: u32, unplayed: Unplayed) -> Fault
-        ensures manager { D.manager self.new.stage.desk ≡ D.manager self.old.stage.desk }
+        ensures manager { D.manager self.new.state.desk ≡ D.manager self.old.state.desk }
     {
         let Unplayed::Told(why) = unplayed else {
             return Fault::NoMemory;

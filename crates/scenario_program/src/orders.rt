@@ -12,9 +12,9 @@ use lock_manager::{
 use lock_script::{Caller, Command, Fault, Name, Names, parse};
 use lock_table::PartTable;
 use scenario::{
-    Listener, OnceDesk, Pen, Picture, Row, RowText, Said, SaidText, Scene, ScriptDesk, Stage,
+    Listener, OnceDesk, Pen, Picture, Row, RowText, Said, SaidText, Scene, ScriptDesk, ScriptState,
 };
-use script_orders::{BadLine, News, Orders, Player, RefusedSession, Turn};
+use script_orders::{BadLine, Instruction, News, Orders, Player, RefusedSession};
 use shared_rule::Board;
 use std::alloc::{AllocError, Global};
 use std::sync::Wait;
@@ -59,13 +59,13 @@ fn play_at<T: PartTable, B: Board<T>, D: Desk<OwnSession<T, B>> + Drop, H: Wait>
 {
     let mut scene = Scene::new(alloc, OnceDesk { desk }, Spectator { orders })?;
     let ended = play_turns(rt, &mut scene);
-    scene.stage.close_all(rt);
-    let Scene { stage, listener: _ } = scene;
-    let Stage {
+    scene.state.close_all(rt);
+    let Scene { state, listener: _ } = scene;
+    let ScriptState {
         desk,
         names: _,
         sessions,
-    } = stage;
+    } = state;
     sessions.finish();
     Ok((desk.desk, ended))
 }
@@ -76,14 +76,14 @@ fn play_turns<T: PartTable, B: Board<T>, D: ScriptDesk<OwnSession<T, B>>, H: Wai
     scene: &mut Scene<T, B, D, Spectator<'_, '_>>,
 ) -> Result<(), Fault>
     requires seats { SeatsAre B.seat D.seat }
-    ensures manager { D.manager scene.new.stage.desk ≡ D.manager scene.old.stage.desk }
+    ensures manager { D.manager scene.new.state.desk ≡ D.manager scene.old.state.desk }
 {
     'turns: for _ in 0..u64::MAX {
-        let turn = scene.listener.orders.next_turn();
+        let turn = scene.listener.orders.next_instruction();
         match turn.map_err(|_| Fault::NoMemory)? {
-            Turn::Line(line) => play_line(rt, scene, line)?,
-            Turn::Anew => let_all_go(rt, &mut scene.stage),
-            Turn::End => return Ok(()),
+            Instruction::Line(line) => play_line(rt, scene, line)?,
+            Instruction::Anew => let_all_go(rt, &mut scene.state),
+            Instruction::End => return Ok(()),
         }
     }
     Ok(())
@@ -96,10 +96,10 @@ fn play_line<T: PartTable, B: Board<T>, D: ScriptDesk<OwnSession<T, B>>, H: Wait
     line: &str,
 ) -> Result<(), Fault>
     requires seats { SeatsAre B.seat D.seat }
-    ensures manager { D.manager scene.new.stage.desk ≡ D.manager scene.old.stage.desk }
+    ensures manager { D.manager scene.new.state.desk ≡ D.manager scene.old.state.desk }
 {
-    let stage = &scene.stage;
-    let command = parse(line, &stage.sessions, &stage.names.objects).map_err(|what| Fault::BadLine {
+    let state = &scene.state;
+    let command = parse(line, &state.sessions, &state.names.objects).map_err(|what| Fault::BadLine {
         line: 0,
         what,
     })?;
@@ -109,19 +109,19 @@ fn play_line<T: PartTable, B: Board<T>, D: ScriptDesk<OwnSession<T, B>>, H: Wait
     }
 }
 
-/// Has all sessions of `stage` abort their transactions. Sessions that wait cancel their waits before that.
+/// Has all sessions of `state` abort their transactions. Sessions that wait cancel their waits before that.
 fn let_all_go<T: PartTable, B: Board<T>, D: ScriptDesk<OwnSession<T, B>>, H: Wait>(
     rt: &H,
-    stage: &mut Stage<T, B, D>,
+    state: &mut ScriptState<T, B, D>,
 )
     requires seats { SeatsAre B.seat D.seat }
-    ensures manager { D.manager stage.new.desk ≡ D.manager stage.old.desk }
+    ensures manager { D.manager state.new.desk ≡ D.manager state.old.desk }
 {
-    stage.cancel_all(rt);
-    'sessions: for place in 0..stage.sessions.resting.len() {
-        if place < stage.sessions.resting.len() {
-            let name = stage.sessions.resting.at(place).name;
-            let _ = stage.answer(rt, Command::Abort(Caller { name, place }));
+    state.cancel_all(rt);
+    'sessions: for place in 0..state.sessions.resting.len() {
+        if place < state.sessions.resting.len() {
+            let name = state.sessions.resting.at(place).name;
+            let _ = state.answer(rt, Command::Abort(Caller { name, place }));
         }
     }
 }

@@ -13,7 +13,7 @@ use lock_script::{
     Defect, Fault, LineReader, Name, NamedObject, ObjectNames, OpenSessions, parse, split_words,
 };
 use lock_table::PartTable;
-use scenario::{Listener, OnceDesk, Output, ReusingDesk, Scene, ScriptDesk, Stage};
+use scenario::{Listener, OnceDesk, Output, ReusingDesk, Scene, ScriptDesk, ScriptState};
 use shared_rule::Board;
 use std::alloc::{AllocError, Global};
 use std::io::{Read, Write};
@@ -190,13 +190,13 @@ fn converse_once<
 {
     let mut scene = Scene::new(shell.alloc, OnceDesk { desk }, listener)?;
     let ended = converse(rt, &mut scene, reader, shell);
-    scene.stage.close_all(rt);
-    let Scene { stage, listener: _ } = scene;
-    let Stage {
+    scene.state.close_all(rt);
+    let Scene { state, listener: _ } = scene;
+    let ScriptState {
         desk,
         names: _,
         sessions,
-    } = stage;
+    } = state;
     sessions.finish();
     Ok((desk.desk, ended))
 }
@@ -227,13 +227,13 @@ fn converse_reusing<
 {
     let mut scene = Scene::reusing(shell.alloc, desk, listener)?;
     let ended = converse(rt, &mut scene, reader, shell);
-    scene.stage.close_all(rt);
-    let Scene { stage, listener: _ } = scene;
-    let Stage {
+    scene.state.close_all(rt);
+    let Scene { state, listener: _ } = scene;
+    let ScriptState {
         desk,
         names: _,
         sessions,
-    } = stage;
+    } = state;
     sessions.finish();
     let ReusingDesk { mut desk, pool } = desk;
     pool.end(rt, &mut desk);
@@ -251,7 +251,7 @@ fn converse<
     R: Read + Drop,
 >(rt: &H, scene: &mut Scene<T, B, D, L>, reader: R, shell: Shell) -> Result<(), Fault>
     requires seats { SeatsAre B.seat D.seat }
-    ensures manager { D.manager scene.new.stage.desk ≡ D.manager scene.old.stage.desk }
+    ensures manager { D.manager scene.new.state.desk ≡ D.manager scene.old.state.desk }
 {
     let mut lines = LineReader::new(reader);
     prompt(&mut scene.listener, shell, GREETING)?;
@@ -298,7 +298,7 @@ fn answer<T: PartTable, B: Board<T>, D: ScriptDesk<OwnSession<T, B>>, L: Listene
     shell: Shell,
 ) -> Result<bool, Fault>
     requires seats { SeatsAre B.seat D.seat }
-    ensures manager { D.manager scene.new.stage.desk ≡ D.manager scene.old.stage.desk }
+    ensures manager { D.manager scene.new.state.desk ≡ D.manager scene.old.state.desk }
 {
     match shell.understand(line) {
         Ok(Typed::End) => Ok(true),
@@ -322,10 +322,10 @@ fn answer_line<T: PartTable, B: Board<T>, D: ScriptDesk<OwnSession<T, B>>, L: Li
     shell: Shell,
 ) -> Result<(), Fault>
     requires seats { SeatsAre B.seat D.seat }
-    ensures manager { D.manager scene.new.stage.desk ≡ D.manager scene.old.stage.desk }
+    ensures manager { D.manager scene.new.state.desk ≡ D.manager scene.old.state.desk }
 {
-    let stage = &scene.stage;
-    match parse(line, &stage.sessions, &stage.names.objects) {
+    let state = &scene.state;
+    match parse(line, &state.sessions, &state.names.objects) {
         Ok(Some(command)) => scene.run(rt, command),
         Ok(None) => Ok(()),
         Err(what) => {
@@ -333,8 +333,8 @@ fn answer_line<T: PartTable, B: Board<T>, D: ScriptDesk<OwnSession<T, B>>, L: Li
                 shell.alloc,
                 line,
                 what,
-                &stage.sessions,
-                &stage.names.objects,
+                &state.sessions,
+                &state.names.objects,
             ) {
                 Ok(text) => scene.listener.tell(text.as_str()),
                 Err(_) => Err(Fault::NoMemory),

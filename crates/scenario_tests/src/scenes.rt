@@ -6,7 +6,7 @@ ghost use Rattle.modes_core.specs.Sessions.{usual_sessions};
 use crate::scripts::{ALL_SESSIONS, expect_run};
 use lock_manager::{Desk, Manager, ManagerDesk, OwnSession};
 use lock_table::PartTable;
-use scenario::{OnceDesk, Output, Scene, Stage};
+use scenario::{OnceDesk, Output, Scene, ScriptState};
 use shared_rule::Board;
 use std::alloc::Global;
 use std::process::Abort;
@@ -41,7 +41,7 @@ fn opens_all_sessions_and_no_more(rt: HostRuntime) -> Result<(), Fail> {
     expect_run(&rt, ALL_SESSIONS, script.as_str(), printed.as_str(), "")
 }
 
-/// Scripts on one stage, and whether they run to their end.
+/// Scripts over one `ScriptState`, and whether they run to their end.
 static IN_TURN: [(&str, bool); 3] = [
     (
         "session b 5\nsession a 5\nsession c 5\ntry b 5/1 ExclusiveLock session\n\
@@ -63,7 +63,7 @@ const PRINTED: &str = "b: session 0 database 5\na: session 1 database 5\nc: sess
     b: granted\na: granted\na: waits\nc: waits\na: session 3 database 6\na: granted\n\
     a: session 4 database 7\nrows 0\na: granted\n";
 
-/// Plays the scripts on one stage, whose sessions `desk` opens, and prints on `output`.
+/// Plays the scripts over one `ScriptState`, whose sessions `desk` opens, and prints on `output`.
 fn play_in_turn<T: PartTable, B: Board<T>, D: Desk<OwnSession<T, B>> + Drop, R: Abort + Wait>(
     rt: &R,
     alloc: Global,
@@ -81,12 +81,12 @@ fn play_in_turn<T: PartTable, B: Board<T>, D: Desk<OwnSession<T, B>> + Drop, R: 
         let ended = scene.play(rt, script.as_bytes());
         assert_eq!(rt; ended.is_ok(), is_good, "{script:?}");
     }
-    let Scene { stage, listener: _ } = scene;
-    let Stage {
+    let Scene { state, listener: _ } = scene;
+    let ScriptState {
         desk: _,
         names: _,
         sessions,
-    } = stage;
+    } = state;
     sessions.finish();
     Ok(())
 }

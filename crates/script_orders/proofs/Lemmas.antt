@@ -2,5 +2,5 @@
 pub mod Merges
 pub mod Next
 pub mod Steps
-pub mod Stories
+pub mod ScriptLines
 pub mod Turns

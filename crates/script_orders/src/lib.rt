@@ -12,15 +12,15 @@ mod played;
 mod progress;
 mod reaches;
 mod runs;
+mod script_lines;
 mod search;
 mod steps;
-mod stories;
 mod totals;
 
 pub use faults::{BadLine, OrdersFault, RefusedSession};
 pub use merges::next_merge;
 pub use options::OrdersOptions;
-pub use orders::{Orders, Turn};
+pub use orders::{Instruction, Orders};
 pub use played::News;
 pub use progress::OrdersLine;
 pub use runs::{Player, run_orders};

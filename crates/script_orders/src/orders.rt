@@ -9,9 +9,9 @@ use crate::faults::{BadLine, RefusedSession};
 use crate::options::OrdersOptions;
 use crate::played::{News, Played};
 use crate::reaches::Ties;
+use crate::script_lines::{ScriptLine, ScriptLines};
 use crate::search::Search;
 use crate::steps::{Order, Step};
-use crate::stories::{Story, StoryLine};
 use crate::totals::Total;
 use choices::Choice;
 use lock_script::{Defect, Name};
@@ -26,7 +26,7 @@ const ORDERS_A_MANAGER: u32 = 128;
 
 /// What a player is to do next.
 #[derive(Clone, Copy, Debug, PartialEq, Eq)]
-pub enum Turn<'a> {
+pub enum Instruction<'a> {
     /// The player is to play this line.
     Line(&'a str),
     /// The player is to let all go that the sessions hold and await. Another order begins with the same sessions.
@@ -57,11 +57,11 @@ enum Given {
     Step(Step),
 }
 
-/// The orders of a story: which are run, and how those ended that were run.
+/// The orders of a script: which are run, and how those ended that were run.
 #[derive(Drop)]
 pub struct Orders<'a> {
     alloc: Global,
-    story: &'a Story,
+    script_lines: &'a ScriptLines,
     ties: &'a Ties,
     options: OrdersOptions,
     total: Total,
@@ -89,21 +89,21 @@ impl<'a> Orders<'a> {
     ghost use Rattle.script_orders.specs.Ends.{begun_of, run_of};
     ghost use Rattle.script_orders.specs.Turns.{Begins, Goes, IsLineAt, KeepsOrder, steps_of};
 
-    /// The orders of `story` within `options`, none of which was run yet. `ties` says which lines of `story` have to do with one another. Refused only where
+    /// The orders of `script_lines` within `options`, none of which was run yet. `ties` says which lines of `script_lines` have to do with one another. Refused only where
     /// memory ran out.
     pub fn new(
         alloc: Global,
-        story: &'a Story,
+        script_lines: &'a ScriptLines,
         ties: &'a Ties,
         options: OrdersOptions,
     ) -> Result<Self, AllocError> {
-        let sessions = story.actors.len();
+        let sessions = script_lines.actors.len();
         Ok(Orders {
             alloc,
-            story,
+            script_lines,
             ties,
             options,
-            total: Total::of_merges(story),
+            total: Total::of_merges(script_lines),
             phase: Phase::Own,
             opened: 0,
             given: Given::Opening(0),
@@ -131,23 +131,23 @@ impl<'a> Orders<'a> {
     }
 
     /// Answers what the player is to do next. Refused only where memory ran out.
-    pub fn next_turn(&mut self) -> Result<Turn<'a>, AllocError>
+    pub fn next_instruction(&mut self) -> Result<Instruction<'a>, AllocError>
         ensures goes { IfOk result (Goes self.old self.new) }
         ensures in_order { IsInOwnOrder (steps_of self.new) }
-        ensures same_story { self.new.story.now ≡ self.old.story.now }
+        ensures same_script_lines { self.new.script_lines.now ≡ self.old.script_lines.now }
     {
         self.go_on()
     }
 
     /// Answers the player's next turn: a line to play, another order, or the end.
-    fn go_on(&mut self) -> Result<Turn<'a>, AllocError>
+    fn go_on(&mut self) -> Result<Instruction<'a>, AllocError>
         ensures goes { IfOk result (Goes self.old self.new) }
-        ensures same_story { self.new.story.now ≡ self.old.story.now }
+        ensures same_script_lines { self.new.script_lines.now ≡ self.old.script_lines.now }
     {
         if self.played.was_refused {
-            return Ok(Turn::End);
+            return Ok(Instruction::End);
         }
-        if self.opened < self.story.opening.len() {
+        if self.opened < self.script_lines.opening.len() {
             return Ok(self.give_opening());
         }
         match self.choose()? {
@@ -158,46 +158,46 @@ impl<'a> Orders<'a> {
     }
 
     /// Gives the next of the lines that come before all orders.
-    fn give_opening(&mut self) -> Turn<'a>
-        requires { self.old.opened < length self.old.story.now.opening.items }
+    fn give_opening(&mut self) -> Instruction<'a>
+        requires { self.old.opened < length self.old.script_lines.now.opening.items }
         ensures goes { Goes self.old self.new result }
-        ensures same_story { self.new.story.now ≡ self.old.story.now }
+        ensures same_script_lines { self.new.script_lines.now ≡ self.old.script_lines.now }
     {
-        let story = self.story;
-        let line = &story.opening[self.opened];
+        let script_lines = self.script_lines;
+        let line = &script_lines.opening[self.opened];
         self.given = Given::Opening(self.opened);
         self.opened += 1;
-        Turn::Line(line.text.as_str())
+        Instruction::Line(line.text.as_str())
     }
 
     /// Gives the next line of `session`. Where `session` has none left, the order is given up.
-    fn give_line(&mut self, session: usize) -> Result<Turn<'a>, AllocError>
+    fn give_line(&mut self, session: usize) -> Result<Instruction<'a>, AllocError>
         ensures goes { IfOk result (Goes self.old self.new) }
-        ensures same_story { self.new.story.now ≡ self.old.story.now }
+        ensures same_script_lines { self.new.script_lines.now ≡ self.old.script_lines.now }
     {
         let Some(line) = self.next_line_of(session) else {
             return self.end_order(false);
         };
         let step = self.order.take(session)?;
         self.given = Given::Step(step);
-        Ok(Turn::Line(line.text.as_str()))
+        Ok(Instruction::Line(line.text.as_str()))
     }
 
     /// The next line of `session`, if it has one left.
-    fn next_line_of(&self, session: usize) -> Option<&'a StoryLine>
+    fn next_line_of(&self, session: usize) -> Option<&'a ScriptLine>
         ensures there { IsSome result → session < length self.now.order.taken.items }
         ensures fits { IsSome result → slice_index self.now.order.taken.items session < 2 ^ 64 - 1 }
-        ensures line { IfSome result (λ line. IsLineAt self.now.story.now
+        ensures line { IfSome result (λ line. IsLineAt self.now.script_lines.now
             (record { session = session; line = slice_index self.now.order.taken.items session }) line.now) }
     {
         let line = *self.order.taken.get(session)?;
-        self.story.line(Step { session, line })
+        self.script_lines.line(Step { session, line })
     }
 
     /// Ends the order that is played, which came to its end if `has_ended`, and else was given up. Begins the next order.
-    fn end_order(&mut self, has_ended: bool) -> Result<Turn<'a>, AllocError>
+    fn end_order(&mut self, has_ended: bool) -> Result<Instruction<'a>, AllocError>
         ensures begins { IfOk result (Begins self.new) }
-        ensures same_story { self.new.story.now ≡ self.old.story.now }
+        ensures same_script_lines { self.new.script_lines.now ≡ self.old.script_lines.now }
     {
         match self.phase {
             Phase::Own => {
@@ -251,24 +251,24 @@ impl<'a> Orders<'a> {
     }
 
     /// Begins another order, with the same lock manager where that can be emptied.
-    fn begin_order(&mut self) -> Result<Turn<'a>, AllocError>
+    fn begin_order(&mut self) -> Result<Instruction<'a>, AllocError>
         ensures begins { IfOk result (Begins self.new) }
-        ensures same_story { self.new.story.now ≡ self.old.story.now }
+        ensures same_script_lines { self.new.script_lines.now ≡ self.old.script_lines.now }
     {
-        let sessions = self.story.actors.len();
+        let sessions = self.script_lines.actors.len();
         self.order = Order::new(self.alloc, sessions)?;
         self.begun_here = self.begun_here.saturating_add(1);
         if self.phase != Phase::Over
             && self.begun_here < ORDERS_A_MANAGER
-            && self.story.is_undone_by_aborts()
+            && self.script_lines.is_undone_by_aborts()
         {
             self.played.begin_order();
-            return Ok(Turn::Anew);
+            return Ok(Instruction::Anew);
         }
         self.played = Played::new(self.alloc, sessions)?;
         self.begun_here = 0;
         self.opened = 0;
-        Ok(Turn::End)
+        Ok(Instruction::End)
     }
 
     /// Counts the order that is played, which came to its end.
@@ -279,9 +279,11 @@ impl<'a> Orders<'a> {
     {
         let order = &self.order;
         let taken = order.taken.as_slice();
-        let told = self.played.tell(self.alloc, self.story, taken)?;
-        let script = self.story.script(self.alloc, order.steps.as_slice())?;
-        let is_stuck = order.steps.len() < self.story.own_merge.len();
+        let told = self.played.tell(self.alloc, self.script_lines, taken)?;
+        let script = self
+            .script_lines
+            .script(self.alloc, order.steps.as_slice())?;
+        let is_stuck = order.steps.len() < self.script_lines.own_merge.len();
         self.endings.count(told, script, is_stuck)
     }
 
@@ -293,12 +295,12 @@ impl<'a> Orders<'a> {
         text: D,
     ) -> Result<(), AllocError> {
         let asker = match self.given {
-            Given::Opening(_) => self.story.actors.len(),
+            Given::Opening(_) => self.script_lines.actors.len(),
             Given::Step(step) => step.session,
         };
         let told = match session {
             Some((name, news)) => {
-                let told = self.story.place_of(name.as_str()).unwrap_or(asker);
+                let told = self.script_lines.place_of(name.as_str()).unwrap_or(asker);
                 self.played.hear(told, name, news, self.order.steps.len());
                 told
             }
@@ -312,14 +314,18 @@ impl<'a> Orders<'a> {
 
     /// Whether the answers to the line of `step` are left out: the line only looks at locks, and only ends are described.
     fn is_left_out(&self, step: Step) -> bool {
-        self.options.ends && self.story.line(step).is_some_and(|line| line.looks())
+        self.options.ends
+            && self
+                .script_lines
+                .line(step)
+                .is_some_and(|line| line.looks())
     }
 
     /// The line that was given last, if there is one.
-    fn given_line(&self) -> Option<&'a StoryLine> {
+    fn given_line(&self) -> Option<&'a ScriptLine> {
         match self.given {
-            Given::Opening(place) => self.story.opening.get(place),
-            Given::Step(step) => self.story.line(step),
+            Given::Opening(place) => self.script_lines.opening.get(place),
+            Given::Step(step) => self.script_lines.line(step),
         }
     }
 
@@ -341,7 +347,7 @@ impl<'a> Orders<'a> {
         }
         Some(RefusedSession {
             number: self.given_line().map_or(0, |line| line.number),
-            wanted: u32::try_from(self.story.sessions_wanted()).unwrap_or(u32::MAX),
+            wanted: u32::try_from(self.script_lines.sessions_wanted()).unwrap_or(u32::MAX),
         })
     }
 

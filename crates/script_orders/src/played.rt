@@ -1,6 +1,6 @@
 //! What an order showed so far: each session's answers, who waits, and who is open.
 
-use crate::stories::Story;
+use crate::script_lines::ScriptLines;
 use lock_script::Name;
 use std::alloc::{AllocError, Global};
 use std::fmt::Display;
@@ -69,14 +69,14 @@ impl Played {
         }
     }
 
-    /// Whether the session at the place `session` of the story waits.
+    /// Whether the session at the place `session` of the script waits.
     pub fn waits(&self, session: usize) -> bool {
         self.standings
             .get(session)
             .is_some_and(|standing| standing.waits)
     }
 
-    /// Whether the session at the place `session` of the story is open.
+    /// Whether the session at the place `session` of the script is open.
     pub fn is_open(&self, session: usize) -> bool {
         self.standings
             .get(session)
@@ -136,31 +136,35 @@ impl Played {
         Ok(names)
     }
 
-    /// Describes an order in which the first lines of each session of `story` were run, as many as `taken` says: the
+    /// Describes an order in which the first lines of each session of `script_lines` were run, as many as `taken` says: the
     /// answers of each session, who waits, and the lines that were not reached.
     pub fn tell(
         &self,
         alloc: Global,
-        story: &Story,
+        script_lines: &ScriptLines,
         taken: &[usize],
     ) -> Result<String, AllocError> {
         let mut told = String::new(alloc);
-        if story.actors.is_empty() {
+        if script_lines.actors.is_empty() {
             told.push_str("#   no line addresses a session\n")?;
         }
-        for (actor, standing) in story.actors.iter().zip(&self.standings) {
+        for (actor, standing) in script_lines.actors.iter().zip(&self.standings) {
             let answers = or_nothing(standing.answers.as_str());
             write!(told, "#   {}: {}\n", actor.name, answers)?;
         }
-        self.tell_who_waits(&mut told, story)?;
-        tell_what_is_left(&mut told, story, taken)?;
+        self.tell_who_waits(&mut told, script_lines)?;
+        tell_what_is_left(&mut told, script_lines, taken)?;
         Ok(told)
     }
 
-    /// Adds to `told` which sessions of `story` wait, if one does.
-    fn tell_who_waits(&self, told: &mut String, story: &Story) -> Result<(), AllocError> {
+    /// Adds to `told` which sessions of `script_lines` wait, if one does.
+    fn tell_who_waits(
+        &self,
+        told: &mut String,
+        script_lines: &ScriptLines,
+    ) -> Result<(), AllocError> {
         let mut is_any = false;
-        for (actor, standing) in story.actors.iter().zip(&self.standings) {
+        for (actor, standing) in script_lines.actors.iter().zip(&self.standings) {
             if standing.waits {
                 told.push_str(if is_any { ", " } else { "#   left waiting: " })?;
                 told.push_str(actor.name.as_str())?;
@@ -171,11 +175,15 @@ impl Played {
     }
 }
 
-/// Adds to `told` the lines of `story` that were not reached, session by session, if there are any. Of each session the
+/// Adds to `told` the lines of `script_lines` that were not reached, session by session, if there are any. Of each session the
 /// first lines were run, as many as `taken` says.
-fn tell_what_is_left(told: &mut String, story: &Story, taken: &[usize]) -> Result<(), AllocError> {
+fn tell_what_is_left(
+    told: &mut String,
+    script_lines: &ScriptLines,
+    taken: &[usize],
+) -> Result<(), AllocError> {
     let mut is_any = false;
-    for (actor, lines) in story.actors.iter().zip(taken) {
+    for (actor, lines) in script_lines.actors.iter().zip(taken) {
         for line in actor.lines.iter().skip(*lines) {
             told.push_str(if is_any { "; " } else { "#   not reached: " })?;
             told.push_str(line.text.as_str().trim())?;

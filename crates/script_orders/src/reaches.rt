@@ -6,12 +6,12 @@
 //! sessions' fast-path slots, so it has to do with each line that asks for a lock, of a session that asked for a lock
 //! on its object before. A line that lists all locks or names another session has to do with every line.
 
-use crate::stories::{Actor, Story};
+use crate::script_lines::{Actor, ScriptLines};
 use lock_script::{parse_strong_index, parse_tag, split_words};
 use modes_core::{Mode, Tag, is_strong};
 use std::alloc::{AllocError, Global};
 
-/// How many lines a story has at most if `Ties` notes, for each line, how far the lines go that have to do with that line.
+/// How many lines a script has at most if `Ties` notes, for each line, how far the lines go that have to do with that line.
 const MOST_LINES: usize = 1000;
 
 /// Objects, by their strong lock counters: bit `i % 64` of word `i / 64` is counter `i`.
@@ -100,9 +100,9 @@ impl Reach {
     }
 }
 
-/// What `line` of `story` has to do with, where its session asked for the objects `asked` before. With `ends` the answers to looks at locks are left out, so
+/// What `line` of `script_lines` has to do with, where its session asked for the objects `asked` before. With `ends` the answers to looks at locks are left out, so
 /// that most looks have to do with no line.
-fn reach_of(story: &Story, line: &str, asked: Objects, ends: bool) -> Reach {
+fn reach_of(script_lines: &ScriptLines, line: &str, asked: Objects, ends: bool) -> Reach {
     let words = split_words(line);
     let Some((verb, words)) = words.as_slice().split_first() else {
         return Reach::NONE;
@@ -119,21 +119,21 @@ fn reach_of(story: &Story, line: &str, asked: Objects, ends: bool) -> Reach {
             Some(index) => Reach::of(Objects::of_counter(index)),
             None => Reach::ALL,
         },
-        "queue" | "waiters" | "unlock" => match object_of(story, words) {
+        "queue" | "waiters" | "unlock" => match object_of(script_lines, words) {
             Some(tag) => Reach::of(Objects::of_counter(tag.strong_index())),
             None => Reach::ALL,
         },
-        "lock" | "try" | "fast" => reach_of_request(story, words, asked),
+        "lock" | "try" | "fast" => reach_of_request(script_lines, words, asked),
         _ => Reach::ALL,
     }
 }
 
-/// The object that the second of `words` names in `story`.
-fn object_of(story: &Story, words: &[&str]) -> Option<Tag> {
+/// The object that the second of `words` names in `script_lines`.
+fn object_of(script_lines: &ScriptLines, words: &[&str]) -> Option<Tag> {
     let word = words.get(1)?;
     match parse_tag(*word) {
         Some(tag) => Some(tag),
-        None => story.object_named(*word),
+        None => script_lines.object_named(*word),
     }
 }
 
@@ -142,10 +142,10 @@ fn counter_of(words: &[&str]) -> Option<u16> {
     parse_strong_index(*words.get(1)?)
 }
 
-/// What a request for a lock has to do with, whose line in `story` has `words`, where its session asked for the
+/// What a request for a lock has to do with, whose line in `script_lines` has `words`, where its session asked for the
 /// objects `asked` before.
-fn reach_of_request(story: &Story, words: &[&str], asked: Objects) -> Reach {
-    let Some(tag) = object_of(story, words) else {
+fn reach_of_request(script_lines: &ScriptLines, words: &[&str], asked: Objects) -> Reach {
+    let Some(tag) = object_of(script_lines, words) else {
         return Reach::ALL;
     };
     let Some(mode) = words.get(2).copied().and_then(Mode::from_name) else {
@@ -165,45 +165,45 @@ fn reach_of_request(story: &Story, words: &[&str], asked: Objects) -> Reach {
     }
 }
 
-/// What each line of `actor` in `story` has to do with. With `ends` the answers to looks at locks are left out.
+/// What each line of `actor` in `script_lines` has to do with. With `ends` the answers to looks at locks are left out.
 fn reaches_of(
     alloc: Global,
-    story: &Story,
+    script_lines: &ScriptLines,
     actor: &Actor,
     ends: bool,
 ) -> Result<Vec<Reach>, AllocError> {
     let mut reaches = Vec::new(alloc);
     let mut asked = Objects::NONE;
     for line in &actor.lines {
-        let reach = reach_of(story, line.text.as_str(), asked, ends);
+        let reach = reach_of(script_lines, line.text.as_str(), asked, ends);
         asked = asked.and(reach.objects);
         reaches.push(reach)?;
     }
     Ok(reaches)
 }
 
-/// Which lines of a story have to do with one another.
+/// Which lines of a script have to do with one another.
 #[derive(Drop)]
 pub struct Ties {
     /// What each line of each session has to do with.
     reaches: Vec<Vec<Reach>>,
-    /// For each line of each session: how many lines each session has up to the last one that has to do with that line. Empty where the story is large.
+    /// For each line of each session: how many lines each session has up to the last one that has to do with that line. Empty where the script is large.
     last: Vec<Vec<Vec<usize>>>,
 }
 
 impl Ties {
-    /// Which lines of `story` have to do with one another. With `ends` the answers to looks at locks are left out. Refused only where memory, by `alloc`, ran
+    /// Which lines of `script_lines` have to do with one another. With `ends` the answers to looks at locks are left out. Refused only where memory, by `alloc`, ran
     /// out.
-    pub fn new(alloc: Global, story: &Story, ends: bool) -> Result<Self, AllocError> {
+    pub fn new(alloc: Global, script_lines: &ScriptLines, ends: bool) -> Result<Self, AllocError> {
         let mut reaches = Vec::new(alloc);
-        for actor in &story.actors {
-            reaches.push(reaches_of(alloc, story, actor, ends)?)?;
+        for actor in &script_lines.actors {
+            reaches.push(reaches_of(alloc, script_lines, actor, ends)?)?;
         }
         let mut ties = Ties {
             reaches,
             last: Vec::new(alloc),
         };
-        if story.own_merge.len() <= MOST_LINES {
+        if script_lines.own_merge.len() <= MOST_LINES {
             for session in 0..ties.reaches.len() {
                 let last = ties.last_of_session(alloc, session)?;
                 ties.last.push(last)?;
@@ -263,7 +263,7 @@ impl Ties {
     }
 
     /// Whether a line is left, of another session than `session`, that has to do with the line numbered `line` of
-    /// `session`, where of each session the first lines were run, as many as `taken` says. Answers yes where the story
+    /// `session`, where of each session the first lines were run, as many as `taken` says. Answers yes where the script
     /// is large.
     pub fn meets_one_left(&self, session: usize, line: usize, taken: &[usize]) -> bool {
         let last = self.last.get(session).and_then(|lines| lines.get(line));

@@ -5,7 +5,7 @@ use crate::options::OrdersOptions;
 use crate::orders::Orders;
 use crate::progress::OrdersLine;
 use crate::reaches::Ties;
-use crate::stories::Story;
+use crate::script_lines::ScriptLines;
 use lock_script::Fault;
 use std::io::{Read, Write};
 use std::sync::Wait;
@@ -30,9 +30,9 @@ pub fn run_orders<P: Player, H: AllocGlobal + Wait, R: Read + Drop, W: Write + D
     options: OrdersOptions,
 ) -> Result<(), OrdersFault> {
     let alloc = rt.alloc();
-    let story = Story::read(alloc, reader)?;
-    let ties = Ties::new(alloc, &story, options.ends)?;
-    let mut orders = Orders::new(alloc, &story, &ties, options)?;
+    let script_lines = ScriptLines::read(alloc, reader)?;
+    let ties = Ties::new(alloc, &script_lines, options.ends)?;
+    let mut orders = Orders::new(alloc, &script_lines, &ties, options)?;
     let ended = play_all(rt, player, &mut orders, line);
     line.end();
     ended?;

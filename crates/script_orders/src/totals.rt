@@ -1,6 +1,6 @@
 //! How many orders a script has.
 
-use crate::stories::Story;
+use crate::script_lines::ScriptLines;
 use std::fmt;
 
 /// The largest number that is written with all its digits.
@@ -14,14 +14,14 @@ pub struct Total {
 }
 
 impl Total {
-    /// In how many ways the lines of the sessions of `story` can be merged. A session that waits leaves some of these ways out.
-    pub fn of_merges(story: &Story) -> Self {
+    /// In how many ways the lines of the sessions of `script_lines` can be merged. A session that waits leaves some of these ways out.
+    pub fn of_merges(script_lines: &ScriptLines) -> Self {
         let mut total = Total {
             leading: 1,
             zeros: 0,
         };
         let mut lines: u64 = 0;
-        for actor in &story.actors {
+        for actor in &script_lines.actors {
             for place in 0..actor.lines.len() {
                 lines = lines.saturating_add(1);
                 let own = (place as u64).saturating_add(1);

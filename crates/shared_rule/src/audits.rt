@@ -30,7 +30,7 @@ ghost use Rattle.shared_rule.specs.Seats.{MayBeKeptApartBy};
 ghost use Rattle.modes_core.specs.Sessions.{most_sessions};
 
 use crate::layout::{SLOTS_PER_GROUP, slot_word, strong_word};
-use crate::opener::Opener;
+use crate::opener::SeatOpener;
 use crate::partitions::{put_part, take_part_alone};
 use crate::plays::{LooksOver, Marking, Sizing, TellsAll};
 use crate::rule::{Seat, SharedWords, TableSizes};
@@ -293,7 +293,7 @@ fn granted_in(rows: &[TableRow]) -> u64
     rows.iter().filter(|row| row.granted).count() as u64
 }
 
-impl<T: PartTable> Opener<T> {
+impl<T: PartTable> SeatOpener<T> {
     /// Counts what is in `table`, with all open sessions gathered at the opener's seat and nobody waiting: the strong lock counters, each by a load; the
     /// modes that fast-path slots show, each slot loaded with all partitions in hand; and the rows of the partitions, which are appended to `rows`, an empty
     /// list. The first gathered session makes the steps. Where memory for the rows runs out the call is refused, and sessions and table are as before in that

@@ -10,7 +10,7 @@ ghost use Rattle.shared_rule.specs.Quiet.{quiet_told};
 ghost use Rattle.shared_rule.specs.Seats.{MayBeKeptApartBy};
 
 use crate::board::Board;
-use crate::opener::Opener;
+use crate::opener::SeatOpener;
 use crate::rule::{SharedWords, TableSizes};
 use crate::seat_board::SeatBoard;
 use crate::seats;
@@ -45,7 +45,7 @@ impl<'a, T: PartTable> Model for Absent<'a, T> {
         × (absent.number < absent.sizes.sessions) };
 }
 
-impl<T: PartTable> Opener<T> {
+impl<T: PartTable> SeatOpener<T> {
     /// Gathers the session of `board`, which has nothing in hand: its seat joins the opener's, after the sessions gathered before.
     pub fn gather<'a>(&mut self, board: SeatBoard<'a, T>) -> Absent<'a, T>
         requires table { (⟦<SeatBoard<'a, T> as Board<T>>⟧.seat board).table ≡ self.old.table }

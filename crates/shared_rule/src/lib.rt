@@ -42,7 +42,7 @@ pub use layout::{
     slot_word, strong_word, table_shelves, table_words, wait_word,
 };
 pub use one_thread::OneThread;
-pub use opener::Opener;
+pub use opener::SeatOpener;
 pub use rule::{LockTableRule, Seat, SharedWords, TableSizes};
 pub use seat_board::SeatBoard;
 pub use table::{SharedTable, in_shelves, open};

@@ -22,13 +22,13 @@ use std::marker::Model;
 /// Gives out session numbers, each once, in rising order (`InitProcess` in proc.c). Contracts see at which table the opener is, how many numbers it has given
 /// out, how many there can be, the histories of the sessions that have closed, and which sessions are gathered at its seat.
 #[derive(Drop)]
-pub struct Opener<T: PartTable> {
+pub struct SeatOpener<T: PartTable> {
     pub(crate) seat: Seat<T>,
     issued: u16,
     pub(crate) sizes: TableSizes,
 }
 
-impl<T: PartTable> Model for Opener<T> {
+impl<T: PartTable> Model for SeatOpener<T> {
     ghost use Rattle.std.specs.Prelude.{◌≡◌, ◌≤◌, Some};
     ghost use Rattle.shared_rule.specs.Boards.{AreFree};
     ghost use Rattle.shared_rule.specs.Openers.{OpenerState};
@@ -52,9 +52,9 @@ impl<T: PartTable> Model for Opener<T> {
         × AreFree opener.seat.me.0.sessions };
 }
 
-impl<T: PartTable> Opener<T> {
+impl<T: PartTable> SeatOpener<T> {
     // The opener at its seat, who has given no number out.
-    pub(crate) fn at(seat: Seat<T>, sizes: &TableSizes) -> Opener<T>
+    pub(crate) fn at(seat: Seat<T>, sizes: &TableSizes) -> SeatOpener<T>
         requires first { seat.me ≡ (opening_view, []) }
         requires sized { IsSized sizes.now seat.table_id }
         requires few { sizes.now.sessions ≤ most_sessions }
@@ -67,7 +67,7 @@ impl<T: PartTable> Opener<T> {
           gathered = [];
         } }
     {
-        Opener {
+        SeatOpener {
             seat,
             issued: 0,
             sizes: *sizes,
@@ -83,7 +83,7 @@ impl<T: PartTable> Opener<T> {
         ensures table { FitsTable result table.now.key table.now.table_id }
         ensures side { result.me ≡ (lone 0 [], []) }
     {
-        let Opener {
+        let SeatOpener {
             mut seat,
             issued: _,
             sizes: _,

@@ -13,7 +13,7 @@ use crate::kept::Kept;
 use crate::layout::{
     BLOCK, CONTENT_GAP, CONTENT_SHELVES, GAP, SESSIONS_START, table_shelves, table_words,
 };
-use crate::opener::Opener;
+use crate::opener::SeatOpener;
 use crate::rule::{LockTableRule, TableSizes};
 use atomic_table::{Refused, Table};
 use lock_table::{NoMemory, PartTable};
@@ -98,7 +98,7 @@ pub fn open<T: PartTable>(
     alloc: Global,
     sizes: &TableSizes,
     parts: Vec<Kept<T>>,
-) -> Result<(SharedTable<T>, Opener<T>), Refused<Kept<T>, Global>>
+) -> Result<(SharedTable<T>, SeatOpener<T>), Refused<Kept<T>, Global>>
     requires few { sizes.now.sessions ≤ most_sessions }
     requires some_groups { 0 < sizes.now.groups }
     requires few_groups { sizes.now.groups ≤ most_groups }
@@ -120,5 +120,5 @@ pub fn open<T: PartTable>(
         Err(NoMemory) => return Err(Refused { slots: parts }),
     };
     let (table, seat) = Table::new(alloc, words.as_slice(), parts, sizes)?;
-    Ok((table, Opener::at(seat, sizes)))
+    Ok((table, SeatOpener::at(seat, sizes)))
 }

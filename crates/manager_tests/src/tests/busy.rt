@@ -3,9 +3,9 @@
 ghost use Rattle.std.specs.Prelude.{◌≡◌};
 
 use super::answers::Answer;
-use super::deeds::{Deed, act_side_by_side};
 use super::pair::Pair;
 use super::races::see_nothing;
+use super::tasks::{Task, act_side_by_side};
 use super::waits::{OWNER, TABLE, take};
 use lock_manager::{Acquired, Mode, OwnSession, Part, Refusal};
 use lock_table::PartTable;
@@ -91,7 +91,7 @@ pub fn find_slots_busy<B: Board<Part> + Send, R: Abort + Threads + Wait + Sync>(
     ensures first { B.seat result.first.board ≡ B.seat pair.first.board }
     ensures second { B.seat result.second.board ≡ B.seat pair.second.board }
 {
-    let (mut pair, _, _) = act_side_by_side(rt, pair, Deed::TryUntilBusy, Deed::TakeUntilSeen);
+    let (mut pair, _, _) = act_side_by_side(rt, pair, Task::TryUntilBusy, Task::TakeUntilSeen);
     see_nothing(rt, &mut pair.first);
     pair
 }

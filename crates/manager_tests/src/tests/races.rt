@@ -4,9 +4,9 @@
 ghost use Rattle.std.specs.Prelude.{◌≡◌, IfSome, None};
 
 use super::answers::{Answer, expect_acted, expect_granted, expect_rows};
-use super::deeds::{Deed, act_side_by_side, race_side_by_side};
 use super::gates::{Gate, Wins};
 use super::pair::Pair;
+use super::tasks::{Task, act_side_by_side, race_side_by_side};
 use super::waits::{OWNER, TABLE, give_back, queue, take};
 use lock_manager::{Acquired, How, Mode, OwnSession, OwnWaiting, Part, Refusal, SessionId};
 use lock_table::PartTable;
@@ -103,8 +103,8 @@ fn try_weak_against_strong<B: Board<Part> + Send, R: Abort + Threads + Wait + Sy
     let (mut pair, ended) = race_side_by_side(
         rt,
         pair,
-        Deed::TryFast(weak),
-        Deed::Try(strong),
+        Task::TryFast(weak),
+        Task::Try(strong),
         round.number,
     );
     let holder = pair.first.id();
@@ -135,8 +135,8 @@ fn try_beside_release<B: Board<Part> + Send, R: Abort + Threads + Wait + Sync>(
     let mut pair = pair;
     pair.first.commit(rt);
     take_fast(rt, &mut pair.first, weak);
-    let tries = Deed::Try(strong);
-    let (mut pair, ended) = race_side_by_side(rt, pair, Deed::Commit, tries, round.number);
+    let tries = Task::Try(strong);
+    let (mut pair, ended) = race_side_by_side(rt, pair, Task::Commit, tries, round.number);
     let answer = ended.of_second;
     if answer != Some(Ok(Acquired::Granted)) {
         expect_in_the_way(rt, answer, pair.first.id(), weak);
@@ -174,8 +174,8 @@ fn try_strong_over_weak<B: Board<Part> + Send, R: Abort + Threads + Wait + Sync>
     let (mut pair, ended) = race_side_by_side(
         rt,
         pair,
-        Deed::Try(strong),
-        Deed::Try(strong),
+        Task::Try(strong),
+        Task::Try(strong),
         round.number,
     );
     expect_in_the_way(rt, ended.of_first, pair.second.id(), weak);
@@ -311,9 +311,9 @@ fn ask_before_sleep<B: Board<Part> + Send, R: Abort + Threads + Wait + Sync>(
     ensures second { B.seat result.second.board ≡ B.seat pair.second.board }
 {
     let mut pair = pair;
-    let asks = Deed::AskUntilHeard(pair.second.id());
+    let asks = Task::AskUntilHeard(pair.second.id());
     take(rt, &mut pair.first, Mode::AccessExclusive);
-    let (mut pair, _, answer) = act_side_by_side(rt, pair, asks, Deed::Lock(Mode::AccessShare));
+    let (mut pair, _, answer) = act_side_by_side(rt, pair, asks, Task::Lock(Mode::AccessShare));
     expect_acted(rt, answer, Err(Refusal::Cancelled));
     give_back(rt, &mut pair.first, Mode::AccessExclusive);
     pair

@@ -14,7 +14,7 @@ use lock_manager::{OwnSession, Part};
 use lock_table::{PartTable, empty_parts};
 use modes_core::SessionId;
 use shared_rule::{
-    Board, Kept, Opener, SeatBoard, SharedTable, SharedWords, TableSizes, in_shelves, open,
+    Board, Kept, SeatBoard, SeatOpener, SharedTable, SharedWords, TableSizes, in_shelves, open,
 };
 use std::alloc::Global;
 use std::process::Abort;
@@ -92,7 +92,7 @@ fn empty_shelves(alloc: Global, sessions: u16) -> Result<Vec<Kept<Part>>, Fail>
 }
 
 /// A table for `sessions` sessions, and the opener that gives their numbers out.
-fn open_table(alloc: Global, sessions: u16) -> Result<(SharedTable<Part>, Opener<Part>), Fail>
+fn open_table(alloc: Global, sessions: u16) -> Result<(SharedTable<Part>, SeatOpener<Part>), Fail>
     requires few { sessions ≤ 64 }
     ensures table { IfOk result (λ opened. opened.1.table ≡ opened.0.shared.table_id) }
     ensures key { IfOk result (λ opened. (opened.1.limit ≡ opened.0.shared.key.sessions)
@@ -114,7 +114,7 @@ fn open_next<'a, R: Abort>(
     rt: &R,
     alloc: Global,
     table: &'a SharedWords<Part>,
-    opener: &mut Opener<Part>,
+    opener: &mut SeatOpener<Part>,
 ) -> Unsteady<'a>
     requires table { (opener.old.table ≡ table.now.table_id) × (opener.old.limit ≡ table.now.key.sessions)
         × (opener.old.groups ≡ table.now.key.groups) }
@@ -142,7 +142,7 @@ fn open_all<'a, R: Abort>(
     rt: &R,
     alloc: Global,
     table: &'a SharedWords<Part>,
-    opener: &mut Opener<Part>,
+    opener: &mut SeatOpener<Part>,
     number: u16,
 ) -> Vec<Unsteady<'a>>
     requires table { (opener.old.table ≡ table.now.table_id) × (opener.old.limit ≡ table.now.key.sessions)
@@ -161,7 +161,7 @@ fn open_all<'a, R: Abort>(
 }
 
 /// Closes `session`: all that it holds is released, and its number is that of a closed one.
-fn close<'a, R: Wait>(rt: &R, opener: &mut Opener<Part>, session: Unsteady<'a>)
+fn close<'a, R: Wait>(rt: &R, opener: &mut SeatOpener<Part>, session: Unsteady<'a>)
     requires own { let B = ⟦<WatchedBoard<SeatBoard<'a, Part>, Pauses> as Board<Part>>⟧ in
         (B.seat session.board).table ≡ opener.old.table }
     ensures opener { opener.new.table ≡ opener.old.table }
@@ -170,7 +170,7 @@ fn close<'a, R: Wait>(rt: &R, opener: &mut Opener<Part>, session: Unsteady<'a>)
 }
 
 /// Closes all of `sessions` at the table of `opener`.
-fn close_all<'a, R: Wait>(rt: &R, opener: &mut Opener<Part>, mut sessions: Vec<Unsteady<'a>>)
+fn close_all<'a, R: Wait>(rt: &R, opener: &mut SeatOpener<Part>, mut sessions: Vec<Unsteady<'a>>)
     requires own { let B = ⟦<WatchedBoard<SeatBoard<'a, Part>, Pauses> as Board<Part>>⟧ in
         All (λ session. (B.seat session.board).table ≡ opener.old.table) sessions.items }
 {

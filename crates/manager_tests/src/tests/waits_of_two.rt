@@ -1,10 +1,10 @@
-//! Scenes of a wait: two sessions of which one waits for the other, on one thread and asleep in one of its own.
+//! Cases of a wait: two sessions of which one waits for the other, on one thread and asleep in one of its own.
 
 ghost use Rattle.std.specs.Prelude.{◌≡◌};
 
 use super::answers::{Answer, expect_acted, expect_answer, expect_seen};
-use super::deeds::{Deed, act_side_by_side};
 use super::pair::Pair;
+use super::tasks::{Task, act_side_by_side};
 use super::waits::{OWNER, TABLE, ask, find_granted, find_still, give_back, leave, queue, take};
 use lock_manager::{Acquired, Asked, Mode, OwnSession, OwnWaiting, Part, Refusal, Started};
 use lock_table::PartTable;
@@ -223,14 +223,14 @@ pub fn sleep_in_a_thread<B: Board<Part> + Send, R: Abort + Threads + Wait + Sync
 {
     let mut pair = pair;
     let number = pair.second.id();
-    let (deed, expected) = if asks {
-        (Deed::AskOnceAwaited(number), Err(Refusal::Cancelled))
+    let (task, expected) = if asks {
+        (Task::AskOnceAwaited(number), Err(Refusal::Cancelled))
     } else {
-        let gives_back = Deed::GiveBackOnceAwaited(number, Mode::AccessExclusive);
+        let gives_back = Task::GiveBackOnceAwaited(number, Mode::AccessExclusive);
         (gives_back, Ok(Acquired::Granted))
     };
     take(rt, &mut pair.first, Mode::AccessExclusive);
-    let (mut pair, _, answer) = act_side_by_side(rt, pair, deed, Deed::Lock(Mode::AccessShare));
+    let (mut pair, _, answer) = act_side_by_side(rt, pair, task, Task::Lock(Mode::AccessShare));
     expect_acted(rt, answer, expected);
     pair.second.commit(rt);
     pair.first.commit(rt);

@@ -40,8 +40,8 @@ impl Orders<'_> {
                 return Choice::Of(session);
             }
         }
-        for _ in self.looked_at..self.story.own_merge.len() {
-            let Some(session) = self.story.own_merge.get(self.looked_at).copied() else {
+        for _ in self.looked_at..self.script_lines.own_merge.len() {
+            let Some(session) = self.script_lines.own_merge.get(self.looked_at).copied() else {
                 return Choice::Ended;
             };
             self.looked_at = self.looked_at.saturating_add(1);
@@ -109,7 +109,7 @@ impl Orders<'_> {
             return 0;
         }
         let lines = self
-            .story
+            .script_lines
             .actors
             .get(session)
             .map_or(0, |actor| actor.lines.len());
@@ -125,7 +125,10 @@ impl Orders<'_> {
         if self.played.waits(session) {
             return false;
         }
-        match line.named().and_then(|name| self.story.place_of(name)) {
+        match line
+            .named()
+            .and_then(|name| self.script_lines.place_of(name))
+        {
             Some(other) => other == session || self.played.is_open(other),
             None => true,
         }

@@ -7,9 +7,9 @@ pub tables-preserved : goal.tables-preserved
 tables-preserved g c = record {
   manager = c.name_table.ensures.manager ∙ c.tables.invariant.manager;
   named = names-item (RunsLine g.B.Board.seat g.B.Board.view g.B.Board.stack g.D.ScriptDesk.again g.D.ScriptDesk.database_of g.D.ScriptDesk.entries) (λ cast. cast.names.objects)
-      (record { sessions = c.args.self.now.stage.sessions; names = c.args.self.now.stage.names })
-      (record { sessions = c.tables.self.stage.sessions; names = c.tables.self.stage.names })
-      (record { sessions = c.name_table.new.self.stage.sessions; names = c.name_table.new.self.stage.names })
+      (record { sessions = c.args.self.now.state.sessions; names = c.args.self.now.state.names })
+      (record { sessions = c.tables.self.state.sessions; names = c.tables.self.state.names })
+      (record { sessions = c.name_table.new.self.state.sessions; names = c.name_table.new.self.state.names })
       c.args.line.number c.deref-table-items.result.now c.tables.table-index c.table-item.result c.tables-test.true c.table-item.is
       c.tables.invariant.named c.in_ok-name_table.ensures.named;
 }

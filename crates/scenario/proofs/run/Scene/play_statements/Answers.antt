@@ -13,12 +13,12 @@ returns-clause-played g c =
     ∙ ap (λ (turns : List Turn). map (line_text (string_bytes c.args.statements.now.session)) (steps_in turns)) c.as_slice.ensures.value in
     on-ok c.take_in_each.result
     (λ taken. (
-      record { sessions = c.name_tables.new.self.stage.sessions; names = c.name_tables.new.self.stage.names },
+      record { sessions = c.name_tables.new.self.state.sessions; names = c.name_tables.new.self.state.names },
       c.in_ok-name_tables.ensures.named,
       subst
           (λ (texts : List (List ℕ)). TakesInEach (RunsLine g.B.Board.seat g.B.Board.view g.B.Board.stack g.D.ScriptDesk.again g.D.ScriptDesk.database_of g.D.ScriptDesk.entries)
-          (record { sessions = c.name_tables.new.self.stage.sessions; names = c.name_tables.new.self.stage.names })
+          (record { sessions = c.name_tables.new.self.state.sessions; names = c.name_tables.new.self.state.names })
           c.args.kept.now (lines_at c.args.line.number texts)
-          (record { sessions = c.take_in_each.new.self.stage.sessions; names = c.take_in_each.new.self.stage.names })
+          (record { sessions = c.take_in_each.new.self.state.sessions; names = c.take_in_each.new.self.state.names })
           c.take_in_each.new.kept) texts taken,
     )) c.take_in_each.ensures.taken

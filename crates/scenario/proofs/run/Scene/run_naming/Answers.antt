@@ -13,9 +13,9 @@ returns-in-Ok-clause-ran g c =
     on-ok c.run_line.result
     (λ played. subst
     (λ (text : List ℕ). RunsLine g.B.Board.seat g.B.Board.view g.B.Board.stack g.D.ScriptDesk.again g.D.ScriptDesk.database_of g.D.ScriptDesk.entries
-    (record { sessions = c.args.self.now.stage.sessions; names = c.args.self.now.stage.names })
+    (record { sessions = c.args.self.now.state.sessions; names = c.args.self.now.state.names })
     (record { number = c.args.line.number; text = text })
-    (record { sessions = c.run_line.new.self.stage.sessions; names = c.run_line.new.self.stage.names })) says
+    (record { sessions = c.run_line.new.self.state.sessions; names = c.run_line.new.self.state.names })) says
     (runs-heard g.B.Board.seat g.B.Board.view g.B.Board.stack g.D.ScriptDesk.again g.D.ScriptDesk.database_of g.D.ScriptDesk.entries g.L.Listener.hears
-    c.args.line.number (record { sessions = c.args.self.now.stage.sessions; names = c.args.self.now.stage.names }) (record { sessions = c.run_line.new.self.stage.sessions; names = c.run_line.new.self.stage.names }) c.args.self.now.listener c.run_line.new.self.listener
+    c.args.line.number (record { sessions = c.args.self.now.state.sessions; names = c.args.self.now.state.names }) (record { sessions = c.run_line.new.self.state.sessions; names = c.run_line.new.self.state.names }) c.args.self.now.listener c.run_line.new.self.listener
     c.as_str.result.now played)) c.run_line.ensures.played

@@ -5,8 +5,8 @@ use Rattle.scenario.proofs.run.Scene.run_ready.Given as goal
 
 abbrev pub invariant-ready : goal.invariant-ready
 invariant-ready g l = record {
-  manager : g.D.ScriptDesk.manager l.self.stage.desk ≡ g.D.ScriptDesk.manager l.fn.self.stage.desk;
+  manager : g.D.ScriptDesk.manager l.self.state.desk ≡ g.D.ScriptDesk.manager l.fn.self.state.desk;
   ran : RunsKept (RunsLine g.B.Board.seat g.B.Board.view g.B.Board.stack g.D.ScriptDesk.again g.D.ScriptDesk.database_of g.D.ScriptDesk.entries)
-      (record { sessions = l.fn.self.stage.sessions; names = l.fn.self.stage.names }) l.fn.kept
-      (record { sessions = l.self.stage.sessions; names = l.self.stage.names }) l.kept;
+      (record { sessions = l.fn.self.state.sessions; names = l.fn.self.state.names }) l.fn.kept
+      (record { sessions = l.self.state.sessions; names = l.self.state.names }) l.kept;
 }

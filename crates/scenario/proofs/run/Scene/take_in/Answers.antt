@@ -7,9 +7,9 @@ pub returns-in_ok-run_line-in-None-clause-taken : goal.returns-in_ok-run_line-in
 returns-in_ok-run_line-in-None-clause-taken g c =
     on-ok c.run_ready.result
     (λ ran. inl (
-      record { sessions = c.run_line.new.self.stage.sessions; names = c.run_line.new.self.stage.names },
+      record { sessions = c.run_line.new.self.state.sessions; names = c.run_line.new.self.state.names },
       runs-heard g.B.Board.seat g.B.Board.view g.B.Board.stack g.D.ScriptDesk.again g.D.ScriptDesk.database_of g.D.ScriptDesk.entries g.L.Listener.hears
-          c.args.line.number (record { sessions = c.args.self.now.stage.sessions; names = c.args.self.now.stage.names }) (record { sessions = c.run_line.new.self.stage.sessions; names = c.run_line.new.self.stage.names }) c.args.self.now.listener c.run_line.new.self.listener
+          c.args.line.number (record { sessions = c.args.self.now.state.sessions; names = c.args.self.now.state.names }) (record { sessions = c.run_line.new.self.state.sessions; names = c.run_line.new.self.state.names }) c.args.self.now.listener c.run_line.new.self.listener
           c.args.line.text.now c.in_ok-run_line-in-None.ensures.played,
       ran,
     )) c.run_ready.ensures.ran

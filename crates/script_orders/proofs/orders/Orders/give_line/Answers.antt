@@ -7,7 +7,7 @@ returns-clause-goes c =
     inr (
       c.in_ok-step.step,
       c.in-Some.line.now,
-      line_of_step c.args.self.now.story.now c.args.session _ c.in_ok-step.step c.in-Some.line.now
+      line_of_step c.args.self.now.script_lines.now c.args.session _ c.in_ok-step.step c.in-Some.line.now
           c.in_ok-step.ensures.whose c.in_ok-step.ensures.next c.in-Some.ensures.line,
       c.as_str.ensures.value,
       c.in_ok-step.ensures.added,

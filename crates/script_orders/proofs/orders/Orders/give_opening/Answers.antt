@@ -7,7 +7,7 @@ returns-clause-goes c =
     inl (
       c.index-line.result.now,
       c.requires,
-      holds_at c.args.self.now.story.now.opening.items c.args.self.now.opened c.index-line.result.now c.index-line.ensures c.requires,
+      holds_at c.args.self.now.script_lines.now.opening.items c.args.self.now.opened c.index-line.result.now c.index-line.ensures c.requires,
       c.as_str.ensures.value,
       refl,
       refl,

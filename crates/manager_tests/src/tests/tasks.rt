@@ -1,0 +1,208 @@
+//! What a session does in a thread of its own, while another one does something in another thread.
+
+ghost use Rattle.std.specs.Prelude.{◌≡◌};
+
+use super::answers::Answer;
+use super::busy::{take_until_seen, try_until_busy};
+use super::gates::Gate;
+use super::pair::Pair;
+use super::waits::{OWNER, TABLE, ask, ask_until_heard, give_back, see_wait};
+use lock_manager::{Asked, Mode, OwnSession, Part, SessionId};
+use lock_table::PartTable;
+use shared_rule::Board;
+use std::process::Abort;
+use std::sync::Wait;
+use std::sync::atomic::{AtomicBool, AtomicU64, Ordering};
+use std::thread::{Threads, join_mut};
+
+/// What a session does with the table.
+#[derive(Clone, Copy)]
+pub enum Task {
+    /// Asks for the table in a mode by a fast-path slot.
+    TryFast(Mode),
+    /// Asks for the table in a mode, without a wait.
+    Try(Mode),
+    /// Ends the transaction, which gives back all that it has.
+    Commit,
+    /// Asks for the table in a mode, and sleeps until the wait is over.
+    Lock(Mode),
+    /// Asks this session to cancel until it is heard, which is once that one waits.
+    AskUntilHeard(SessionId),
+    /// Asks this session to cancel once its wait shows.
+    AskOnceAwaited(SessionId),
+    /// Gives this mode back once the wait of this session shows.
+    GiveBackOnceAwaited(SessionId, Mode),
+    /// Tries a weak mode by a slot until the slots are found busy, and says so.
+    TryUntilBusy,
+    /// Takes a strong mode over and over until another session says that it found the slots busy.
+    TakeUntilSeen,
+}
+
+/// What the two threads do, and what they show each other.
+#[derive(Drop)]
+struct Shown {
+    tasks: (Task, Task),
+    /// In which round of a race the two threads are.
+    round: u32,
+    gate: Gate,
+    /// How many of the two threads have ended.
+    ended: AtomicU64,
+    /// Whether the first thread was the first to end.
+    is_first_ahead: AtomicBool,
+    /// Whether the slots were found busy.
+    is_busy: AtomicBool,
+}
+
+impl Shown {
+    /// What two sides show in round `round`, of which nothing is done yet: `of_first` and `of_second` are to be.
+    fn of(of_first: Task, of_second: Task, round: u32) -> Shown {
+        Shown {
+            tasks: (of_first, of_second),
+            round,
+            gate: Gate::new(),
+            ended: AtomicU64::new(0),
+            is_first_ahead: AtomicBool::new(false),
+            is_busy: AtomicBool::new(false),
+        }
+    }
+
+    /// What the session on `side` is to do.
+    fn task(&self, side: u32) -> Task {
+        if side == 0 {
+            self.tasks.0
+        } else {
+            self.tasks.1
+        }
+    }
+
+    /// Notes that the session on `side` has ended.
+    fn end(&self, side: u32) {
+        if self.ended.fetch_add(1, Ordering::SeqCst) == 0 {
+            self.is_first_ahead.store(side == 0, Ordering::SeqCst);
+        }
+    }
+}
+
+/// How two that did something side by side have ended.
+#[derive(Clone, Copy)]
+pub struct Ended {
+    /// What each of the two was answered, if it was a request.
+    pub of_first: Option<Answer>,
+    pub of_second: Option<Answer>,
+    /// Whether the first of the two was the first to end.
+    pub is_first_ahead: bool,
+}
+
+/// Does with `session` what the session on `side` is to do, once both sides have begun. If that is a request, answers
+/// what it was answered.
+fn act<T: PartTable, B: Board<T>, R: Abort + Wait>(
+    rt: &R,
+    shown: &Shown,
+    session: &mut OwnSession<T, B>,
+    side: u32,
+) -> Option<Answer>
+    ensures seat { B.seat session.new.board ≡ B.seat session.old.board }
+{
+    shown.gate.pass(rt, shown.round, side);
+    let answer = do_task(rt, shown, session, shown.task(side));
+    shown.end(side);
+    answer
+}
+
+/// Does `task` with `session`. If it is a request, answers what that was answered.
+fn do_task<T: PartTable, B: Board<T>, R: Abort + Wait>(
+    rt: &R,
+    shown: &Shown,
+    session: &mut OwnSession<T, B>,
+    task: Task,
+) -> Option<Answer>
+    ensures seat { B.seat session.new.board ≡ B.seat session.old.board }
+{
+    match task {
+        Task::TryFast(mode) => Some(session.try_fast(TABLE, mode, OWNER)),
+        Task::Try(mode) => Some(session.try_lock(rt, TABLE, mode, OWNER)),
+        Task::Commit => {
+            session.commit(rt);
+            None
+        }
+        Task::Lock(mode) => Some(session.acquire(rt, TABLE, mode, OWNER)),
+        Task::AskUntilHeard(number) => {
+            ask_until_heard(rt, session, number);
+            None
+        }
+        Task::AskOnceAwaited(number) => {
+            see_wait(rt, session, number);
+            ask(rt, session, number, Asked::Waiting);
+            None
+        }
+        Task::GiveBackOnceAwaited(number, mode) => {
+            see_wait(rt, session, number);
+            give_back(rt, session, mode);
+            None
+        }
+        Task::TryUntilBusy => {
+            try_until_busy(rt, session, &shown.is_busy);
+            None
+        }
+        Task::TakeUntilSeen => {
+            take_until_seen(rt, session, &shown.is_busy);
+            None
+        }
+    }
+}
+
+/// Has `first` and `second`, which are lent, do their tasks, the one beside the other.
+fn act_on_loan<B: Board<Part> + Send, R: Abort + Threads + Wait + Sync>(
+    rt: &R,
+    shown: &Shown,
+    first: &mut OwnSession<Part, B>,
+    second: &mut OwnSession<Part, B>,
+) -> Ended
+    ensures first { B.seat first.new.board ≡ B.seat first.old.board }
+    ensures second { B.seat second.new.board ≡ B.seat second.old.board }
+{
+    let (of_first, of_second) = join_mut(
+        rt,
+        &mut || act(rt, shown, first, 0),
+        &mut || act(rt, shown, second, 1),
+    );
+    Ended {
+        of_first,
+        of_second,
+        is_first_ahead: shown.is_first_ahead.load(Ordering::SeqCst),
+    }
+}
+
+/// Has each of two sessions of `pair` do its task, the one beside the other, in round `round` of a race.
+pub fn race_side_by_side<B: Board<Part> + Send, R: Abort + Threads + Wait + Sync>(
+    rt: &R,
+    pair: Pair<Part, B>,
+    of_first: Task,
+    of_second: Task,
+    round: u32,
+) -> (Pair<Part, B>, Ended)
+    ensures first { B.seat result.0.first.board ≡ B.seat pair.first.board }
+    ensures second { B.seat result.0.second.board ≡ B.seat pair.second.board }
+{
+    let Pair {
+        mut first,
+        mut second,
+    } = pair;
+    let shown = Shown::of(of_first, of_second, round);
+    let ended = act_on_loan(rt, &shown, &mut first, &mut second);
+    (Pair { first, second }, ended)
+}
+
+/// Has each of two sessions of `pair` do its task, the one beside the other, and answers what each was answered.
+pub fn act_side_by_side<B: Board<Part> + Send, R: Abort + Threads + Wait + Sync>(
+    rt: &R,
+    pair: Pair<Part, B>,
+    of_first: Task,
+    of_second: Task,
+) -> (Pair<Part, B>, Option<Answer>, Option<Answer>)
+    ensures first { B.seat result.0.first.board ≡ B.seat pair.first.board }
+    ensures second { B.seat result.0.second.board ≡ B.seat pair.second.board }
+{
+    let (pair, ended) = race_side_by_side(rt, pair, of_first, of_second, 0);
+    (pair, ended.of_first, ended.of_second)
+}
