@@ -1,4 +1,4 @@
-//! Every order of a script: a story whose table of outcomes is known, and a plain enumeration beside the program's.
+//! Every order of a script: cases whose table of outcomes is known, and a plain enumeration beside the program's.
 use crate::orders_texts::{
     ALL_RUN, CLOSED, CLOSED_LATER, DRAWN, GUARDED, GUARDED_LOCKED, LOOKED, LOOKED_AT,
     LOOKED_AT_ENDS, TWO_TABLES, TWO_TABLES_LOCKED, UPGRADE, UPGRADED,
@@ -181,10 +181,10 @@ fn shows_at_a_terminal_how_many_were_run(rt: HostRuntime) -> Result<(), Fail> {
     Ok(())
 }
 
-/// A story: the lines before its orders, the lines of each session, and how many orders there are.
-type Tale = (&'static str, &'static [&'static [&'static str]], u32);
+/// A case: the lines before its orders, the lines of each session, and how many orders there are.
+type Case = (&'static str, &'static [&'static [&'static str]], u32);
 
-static TALES: [Tale; 3] = [
+static CASES: [Case; 3] = [
     (
         "session a 5\nsession b 5\n",
         &[
@@ -225,10 +225,10 @@ static TALES: [Tale; 3] = [
     ),
 ];
 
-/// The `lines` lines of `tale` in the order that the digits of `code` say, one of which says whose line comes next.
+/// The `lines` lines of `case` in the order that the digits of `code` say, one of which says whose line comes next.
 /// `None` where a digit names a session whose lines are all taken.
-fn script_of(alloc: Global, tale: &Tale, lines: u32, code: u32) -> Result<Option<String>, Fail> {
-    let (opening, actors, _) = *tale;
+fn script_of(alloc: Global, case: &Case, lines: u32, code: u32) -> Result<Option<String>, Fail> {
+    let (opening, actors, _) = *case;
     let many = u32::try_from(actors.len()).unwrap_or(0);
     let mut script = String::from_str(alloc, opening)?;
     let mut taken = vec![in alloc; 0; actors.len()]?;
@@ -257,26 +257,26 @@ fn next_line(
     Some(*line)
 }
 
-/// How many orders `tale` has, whose sessions have `lines` lines in all.
-fn count_all(alloc: Global, tale: &Tale, lines: u32) -> Result<u32, Fail> {
+/// How many orders `case` has, whose sessions have `lines` lines in all.
+fn count_all(alloc: Global, case: &Case, lines: u32) -> Result<u32, Fail> {
     let mut orders = 0u32;
-    let codes = u32::try_from(tale.1.len())
+    let codes = u32::try_from(case.1.len())
         .unwrap_or(0)
         .checked_pow(lines)
         .unwrap_or(0);
     for code in 0..codes {
-        if script_of(alloc, tale, lines, code)?.is_some() {
+        if script_of(alloc, case, lines, code)?.is_some() {
             orders = orders.saturating_add(1);
         }
     }
     Ok(orders)
 }
 
-/// The story `tale` as one script, and how many lines its sessions have.
-fn whole(alloc: Global, tale: &Tale) -> Result<(String, u32), Fail> {
-    let mut script = String::from_str(alloc, tale.0)?;
+/// The whole of `case` as one script, and how many lines its sessions have.
+fn whole(alloc: Global, case: &Case) -> Result<(String, u32), Fail> {
+    let mut script = String::from_str(alloc, case.0)?;
     let mut many = 0u32;
-    for lines in tale.1 {
+    for lines in case.1 {
         for line in *lines {
             script.push_str(*line)?;
             many = many.saturating_add(1);
@@ -285,15 +285,15 @@ fn whole(alloc: Global, tale: &Tale) -> Result<(String, u32), Fail> {
     Ok((script, many))
 }
 
-/// Checks that the program finds as many orders of `tale` as the plain enumeration has.
+/// Checks that the program finds as many orders of `case` as the plain enumeration has.
 fn expect_counts(
     rt: &(impl Abort + AllocGlobal + Clock + Files + Threads + Wait + Sync),
-    tale: &Tale,
+    case: &Case,
 ) -> Result<(), Fail> {
     let alloc: Global = rt.alloc();
-    let (script, lines) = whole(alloc, tale)?;
-    let all = count_all(alloc, tale, lines)?;
-    assert_eq!(rt; all, tale.2, "the orders of {script:?}");
+    let (script, lines) = whole(alloc, case)?;
+    let all = count_all(alloc, case, lines)?;
+    assert_eq!(rt; all, case.2, "the orders of {script:?}");
     let most = format!(in alloc; ", of at most {all}: ")?;
     let told = printed(rt, "lock_scenario orders", script.as_str())?;
     assert!(rt;
@@ -305,8 +305,8 @@ fn expect_counts(
 
 #[test]
 fn tells_as_many_orders_as_a_plain_enumeration(rt: HostRuntime) -> Result<(), Fail> {
-    for tale in &TALES {
-        expect_counts(&rt, tale)?;
+    for case in &CASES {
+        expect_counts(&rt, case)?;
     }
     Ok(())
 }
