@@ -37,7 +37,7 @@ enum Lock {
 struct Locks {
     /// The lock as the first session holds it.
     held: Lock,
-    /// The same lock as the second session, which comes late, takes it.
+    /// How the second session, which comes late, takes the lock that the first one has.
     wanted: Lock,
 }
 

@@ -154,9 +154,9 @@ impl Rounds {
 /// What a session does in a race for a lock.
 #[derive(Clone, Copy)]
 pub enum Role {
-    /// It has the lock first, and holds it until the other session comes.
+    /// The session that has the lock first, and holds the lock until the other session comes.
     Holder,
-    /// It comes for the lock once the other session holds it.
+    /// The session that comes for the lock once the other session holds it.
     Latecomer,
 }
 
