@@ -119,8 +119,7 @@ fn lower_if_held(slots: &mut Vec<Entry>, place: usize, owner: Owner) -> bool
     true
 }
 
-/// Adds `entry` in a new last slot of `slots`, for which there is room, and notes the slot's place in `index` under
-/// `hash`.
+/// Adds `entry` in a new last slot of `slots`, for which there is room, and notes its place in `index` under `hash`.
 #[inline(always)]
 pub(crate) fn push_entry(slots: &mut Vec<Entry>, index: &mut PlaceIndex, hash: u32, entry: Entry)
     requires indexed { IsIndexed (opened slots.old.items) index.old }
@@ -286,8 +285,7 @@ pub(crate) fn settle_inner(
     slots.len()
 }
 
-/// Moves `entry` from the slot at `place` of `slots` down to the slot at `to`. From `to` up to `place` all slots are
-/// empty.
+/// Moves `entry` from the slot at `place` of `slots` down to the slot at `to`, over empty slots.
 fn move_down(slots: &mut Vec<Entry>, place: usize, to: usize, entry: Entry)
     requires there { slot_at (opened slots.old.items) place ≡ Some entry }
     requires down { to ≤ place }

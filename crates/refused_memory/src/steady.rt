@@ -20,7 +20,7 @@ pub const ROUNDS: u32 = 100_000;
 
 /// What a session does in a round.
 #[derive(Clone, Copy)]
-enum Deed {
+enum Task {
     Takes,
     GivesBack,
     /// Asks for the lock, and is refused, since the other session has something in the way.
@@ -29,48 +29,48 @@ enum Deed {
 
 /// A turn of a round: whether the first session does something, or else the second one, what is done, and with which
 /// lock.
-type Turn = (bool, Deed, Hold);
+type Turn = (bool, Task, Hold);
 
 /// The turns of a round, which a wait follows. The first session has a lock all the while.
 static TURNS: [Turn; 17] = [
     // First in, first out: by a slot, an object, and a strong mode.
-    (true, Deed::Takes, (TABLE, RowExclusive)),
-    (true, Deed::Takes, (OBJECT, Exclusive)),
-    (true, Deed::Takes, (ANOTHER_TABLE, Share)),
-    (true, Deed::GivesBack, (TABLE, RowExclusive)),
-    (true, Deed::GivesBack, (OBJECT, Exclusive)),
-    (true, Deed::GivesBack, (ANOTHER_TABLE, Share)),
+    (true, Task::Takes, (TABLE, RowExclusive)),
+    (true, Task::Takes, (OBJECT, Exclusive)),
+    (true, Task::Takes, (ANOTHER_TABLE, Share)),
+    (true, Task::GivesBack, (TABLE, RowExclusive)),
+    (true, Task::GivesBack, (OBJECT, Exclusive)),
+    (true, Task::GivesBack, (ANOTHER_TABLE, Share)),
     // Last in, first out.
-    (true, Deed::Takes, (TABLE, RowExclusive)),
-    (true, Deed::Takes, (OBJECT, Exclusive)),
-    (true, Deed::Takes, (ANOTHER_TABLE, Share)),
-    (true, Deed::GivesBack, (ANOTHER_TABLE, Share)),
-    (true, Deed::GivesBack, (OBJECT, Exclusive)),
-    (true, Deed::GivesBack, (TABLE, RowExclusive)),
+    (true, Task::Takes, (TABLE, RowExclusive)),
+    (true, Task::Takes, (OBJECT, Exclusive)),
+    (true, Task::Takes, (ANOTHER_TABLE, Share)),
+    (true, Task::GivesBack, (ANOTHER_TABLE, Share)),
+    (true, Task::GivesBack, (OBJECT, Exclusive)),
+    (true, Task::GivesBack, (TABLE, RowExclusive)),
     // A strong mode moves the other session's weak one out of its slot, and the next one of both goes by the table.
-    (true, Deed::Takes, (TABLE, AccessShare)),
-    (false, Deed::Takes, (ANOTHER_TABLE, AccessShare)),
-    (false, Deed::IsRefused, (TABLE, AccessExclusive)),
-    (true, Deed::IsRefused, (ANOTHER_TABLE, AccessExclusive)),
-    (true, Deed::Takes, (OBJECT, Exclusive)),
+    (true, Task::Takes, (TABLE, AccessShare)),
+    (false, Task::Takes, (ANOTHER_TABLE, AccessShare)),
+    (false, Task::IsRefused, (TABLE, AccessExclusive)),
+    (true, Task::IsRefused, (ANOTHER_TABLE, AccessExclusive)),
+    (true, Task::Takes, (OBJECT, Exclusive)),
 ];
 
-/// Does `deed` with `session` for the lock `hold`, and answers whether that went as it is to.
+/// Does `task` with `session` for the lock `hold`, and answers whether that went as it is to.
 fn goes<T: PartTable, B: Board<T>, R: Wait>(
     rt: &R,
     session: &mut OwnSession<T, B>,
-    deed: Deed,
+    task: Task,
     hold: Hold,
 ) -> bool
     ensures seat { KeepsSeat B.seat session.old session.new }
 {
     let (tag, mode) = hold;
-    if let Deed::GivesBack = deed {
+    if let Task::GivesBack = task {
         return session.unlock(rt, tag, mode, Owner::Transaction) == Ok(Unlocked::Released);
     }
     let answer = session.try_lock(rt, tag, mode, Owner::Transaction);
-    match deed {
-        Deed::IsRefused => matches!(answer, Err(Refusal::Conflict { .. })),
+    match task {
+        Task::IsRefused => matches!(answer, Err(Refusal::Conflict { .. })),
         _ => answer == Ok(Acquired::Granted),
     }
 }
@@ -86,11 +86,11 @@ fn turns_go<T: PartTable, B: Board<T>, R: Wait>(
 {
     let mut all = true;
     'turns: for place in 0..17 {
-        let (is_first, deed, hold) = TURNS[place];
+        let (is_first, task, hold) = TURNS[place];
         let goes = if is_first {
-            goes(rt, first, deed, hold)
+            goes(rt, first, task, hold)
         } else {
-            goes(rt, second, deed, hold)
+            goes(rt, second, task, hold)
         };
         all = all && goes;
     }
