@@ -7,7 +7,7 @@ ghost use Rattle.scenario.specs.Sizes.{IsForManager};
 
 use crate::desks::ScriptDesk;
 use crate::listener::Listener;
-use crate::opening::read_opening;
+use crate::opening::reopen;
 use crate::run::Scene;
 use crate::runs::{Keeping, Manner, act_out};
 use crate::sql_runs::Spoken;
@@ -16,7 +16,7 @@ use lock_script::{ByName, Defect, Fault, KeptLine, KeptLines, LineReader, Name};
 use lock_table::PartTable;
 use shared_rule::Board;
 use std::alloc::{AllocError, Global};
-use std::io::{Cursor, Read};
+use std::io::Read;
 use std::sync::Wait;
 
 /// How the lines of a script are run in turn.
@@ -42,14 +42,12 @@ pub fn run_in_turn<H: AllocGlobal + Wait, R: Read + Drop, L: Listener + Drop>(
 ) -> Result<(), Fault>
     requires { IsForManager config }
 {
-    let mut reader = reader;
     let alloc = rt.alloc();
-    let opening = read_opening(alloc, &mut reader)?;
-    let reader = Cursor::new(opening.front).chain(reader);
-    let manner = if opening.speaks || turns.keep {
+    let (reader, speaks) = reopen(alloc, reader)?;
+    let manner = if speaks || turns.keep {
         Manner::Keeping(Keeping {
             alloc,
-            speaks: opening.speaks,
+            speaks,
             keeps: turns.keep,
         })
     } else {

@@ -1,8 +1,12 @@
 //! How a script begins, which says whether it speaks SQL.
+ghost use Rattle.std.specs.Prelude.{IfOk, Some};
+ghost use Rattle.std.specs.Io.Chain.{chain_remaining};
+ghost use Rattle.std.specs.Io.Cursor.{cursor_remaining};
+ghost use Rattle.std.specs.Io.KnownBytes.{Consumes, Keeps};
 
 use lock_script::Fault;
 use std::alloc::Global;
-use std::io::{ErrorKind, Read};
+use std::io::{Chain, Cursor, ErrorKind, Read};
 
 /// How many bytes of a script are looked at for its first command.
 const MOST_BYTES: usize = 65536;
@@ -15,17 +19,39 @@ const CAPACITY: usize = 4096;
 
 /// The first bytes of a script, and whether the script speaks SQL.
 #[derive(Drop)]
-pub struct Opening {
-    pub front: Vec<u8>,
-    pub speaks: bool,
+struct Opening {
+    front: Vec<u8>,
+    speaks: bool,
+}
+
+/// The whole script of `reader`, of which the beginning was looked at, and whether the script speaks SQL: whether its first
+/// command is a `schema` that stands within its first 65,536 bytes.
+pub fn reopen<R: Read + Drop>(
+    alloc: Global,
+    reader: R,
+) -> Result<(Chain<Cursor<Vec<u8>>, R>, bool), Fault>
+    ensures whole { IfOk result (λ it. Keeps (R.remaining reader)
+        (chain_remaining (cursor_remaining (λ bytes. Some bytes.items)) R.remaining it.0)) }
+{
+    let mut reader = reader;
+    let opening = read_opening(alloc, &mut reader)?;
+    let speaks = opening.speaks;
+    Ok((Cursor::new(opening.front).chain(reader), speaks))
 }
 
 /// Reads from `reader` what shows whether its script speaks SQL: whether the first command of the script is a `schema`.
-pub fn read_opening<R: Read>(alloc: Global, reader: &mut R) -> Result<Opening, Fault> {
+fn read_opening<R: Read>(alloc: Global, reader: &mut R) -> Result<Opening, Fault>
+    ensures front { IfOk result (λ opening.
+        Consumes (R.remaining reader.old) (R.remaining reader.new) opening.front.items) }
+{
     let mut front = Vec::new(alloc);
     let mut chunk = [0; CAPACITY];
-    for _ in 0..MOST_READS {
+    'reads: for _ in 0..MOST_READS {
         if let Some(speaks) = speaks_sql(front.as_slice(), false) {
+            return Ok(Opening { front, speaks });
+        }
+        if front.len() >= MOST_BYTES {
+            let speaks = false;
             return Ok(Opening { front, speaks });
         }
         let read = match reader.read(&mut chunk) {
@@ -33,7 +59,7 @@ pub fn read_opening<R: Read>(alloc: Global, reader: &mut R) -> Result<Opening, F
             Err(error) if error.kind() == ErrorKind::Interrupted => continue,
             Err(_) => return Err(Fault::ReadFailed),
         };
-        if read == 0 || front.len() >= MOST_BYTES {
+        if read == 0 {
             break;
         }
         let Ok(()) = front.extend_from_slice(&chunk[..read]) else {
