@@ -1,5 +1,5 @@
 //! What a timeline shows: bars of locks, and arrows between them.
-ghost use Rattle.std.specs.Prelude.{◌≡◌, ◌<◌};
+ghost use Rattle.std.specs.Prelude.{◌≡◌, ◌==◌, ◌<◌, ◌≤◌, max};
 ghost use Rattle.lock_timeline.specs.Bars.{bars_the_way, is_awaited, is_held};
 
 use modes_core::{Mode, ModeSet, Tag, conflicts};
@@ -34,6 +34,17 @@ impl Bar {
         self.asked.saturating_add(steps).saturating_add(1)
     }
 
+    /// The steps in which the bar's session waited for the lock. It waits up to `last` where it waits still.
+    pub fn wait(&self, last: u32) -> Span {
+        Span::new(self.asked, self.got.or(self.ended).unwrap_or(last))
+    }
+
+    /// The steps in which the bar's session had the lock, if it got it. It has it up to `last` where it has it still.
+    pub fn hold(&self, last: u32) -> Option<Span> {
+        let got = self.got?;
+        Some(Span::new(got, self.ended.unwrap_or(last)))
+    }
+
     /// Whether the bar's session waits for the lock: it has neither got the lock nor given up.
     pub fn is_awaited(&self) -> bool
         ensures { result ≡ is_awaited self.now }
@@ -46,6 +57,34 @@ impl Bar {
         ensures { result ≡ is_held self.now }
     {
         self.got.is_some() && self.ended.is_none()
+    }
+}
+
+/// Steps of a timeline, from one to another that is none before it.
+#[derive(Clone, Copy, Debug, PartialEq, Eq)]
+pub struct Span {
+    pub from: u32,
+    pub to: u32,
+    ghost ordered: { from ≤ to },
+}
+
+impl Span {
+    /// The steps from `from` to `to`, or `from` alone where `to` is before it.
+    pub fn new(from: u32, to: u32) -> Self
+        ensures from { result.from ≡ from }
+        ensures to { result.to ≡ max from to }
+    {
+        Span {
+            from,
+            to: to.max(from),
+        }
+    }
+
+    /// Whether the steps are one and the same.
+    pub fn is_empty(self) -> bool
+        ensures { result ≡ (self.from == self.to) }
+    {
+        self.from == self.to
     }
 }
 

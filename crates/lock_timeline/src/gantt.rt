@@ -1,14 +1,14 @@
 //! A timeline as a Gantt chart of Mermaid's, which code hosts draw.
 
-use crate::bars::Bar;
+use crate::bars::{Bar, Span};
 use crate::timeline::Timeline;
 use std::alloc::AllocError;
 use std::fmt::Write;
 
 impl Timeline {
-    /// Draws the timeline as a Gantt chart of Mermaid, whose time is the number of the script's line: a section for
-    /// each session that has a lock or waits for one, with a task for each lock and for each wait. The task of a wait
-    /// names the sessions in its way. Refused only where memory ran out.
+    /// Draws the timeline as a Gantt chart of Mermaid, whose time counts the steps from 1: a section for each session that
+    /// has a lock or waits for one, with a task for each lock and for each wait. The task of a wait names the sessions in
+    /// its way. Refused only where memory ran out.
     pub fn gantt(&self) -> Result<String, AllocError> {
         let mut text = String::new(self.alloc);
         writeln!(text, "gantt")?;
@@ -44,11 +44,10 @@ impl Timeline {
 
     /// Writes to `text` the task for the wait with which `bar`, numbered `number`, begins, if there is one.
     fn write_wait(&self, number: u32, bar: &Bar, text: &mut String) -> Result<(), AllocError> {
-        let until = bar.got.or(bar.ended).unwrap_or(self.last_step());
-        if until <= bar.asked && bar.got.is_some() {
+        let wait = bar.wait(self.last_step());
+        if wait.is_empty() && bar.got.is_some() {
             return Ok(());
         }
-        let (from, to) = (self.line_of(bar.asked), self.line_of(until));
         let label = bar.label.as_str();
         write!(text, "  waits for {label}")?;
         let mut word = " behind ";
@@ -59,18 +58,16 @@ impl Timeline {
                 word = " and ";
             }
         }
-        writeln!(text, " :crit, {from}, {to}")
+        write_time(text, "crit", wait)
     }
 
     /// Writes to `text` the task for the time in which the session of `bar` held the lock, if the session got it.
     fn write_hold(&self, bar: &Bar, text: &mut String) -> Result<(), AllocError> {
-        let Some(got) = bar.got else {
+        let Some(hold) = bar.hold(self.last_step()) else {
             return Ok(());
         };
-        let ended = bar.ended.unwrap_or(self.last_step());
-        let (from, to) = (self.line_of(got), self.line_of(ended));
-        let label = bar.label.as_str();
-        writeln!(text, "  {label} :done, {from}, {to}")
+        write!(text, "  {}", bar.label)?;
+        write_time(text, "done", hold)
     }
 
     /// The name of the session of the bar numbered `number`.
@@ -84,14 +81,10 @@ impl Timeline {
             None => "",
         }
     }
+}
 
-    /// The number of the script's line of the step `step`. After the last step, the number of the line after the last
-    /// step's line.
-    fn line_of(&self, step: u32) -> u32 {
-        match (self.steps.get(step as usize), self.steps.last()) {
-            (Some(line), _) => *line,
-            (None, Some(last)) => last.saturating_add(1),
-            (None, None) => 0,
-        }
-    }
+/// Ends a task's line of `text`: how the task looks, by `kind`, and its steps `span`.
+fn write_time(text: &mut String, kind: &str, span: Span) -> Result<(), AllocError> {
+    let (from, to) = (span.from.saturating_add(1), span.to.saturating_add(1));
+    writeln!(text, " :{kind}, {from}, {to}")
 }

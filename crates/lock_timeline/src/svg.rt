@@ -1,6 +1,6 @@
 //! A timeline as SVG.
 
-use crate::bars::{Arrow, Bar, Way};
+use crate::bars::{Arrow, Bar, Span, Way};
 use crate::timeline::Timeline;
 use modes_core::{Mode, is_strong};
 use std::alloc::AllocError;
@@ -148,17 +148,12 @@ impl Timeline {
     /// Writes `bar` to `text`: its wait in red, and then the time for which it was held.
     fn write_bar(&self, bar: &Bar, text: &mut String) -> Result<(), AllocError> {
         let y = self.y_of(bar);
-        let asked = x_of(bar.asked);
-        let ended = x_of(bar.ended.unwrap_or(self.last_step()));
-        let got = match bar.got {
-            Some(step) => x_of(step),
-            None => ended,
-        };
         let label = bar.label.as_str();
-        if asked < got {
-            write_rect(text, "wait", label, (asked, got, y))?;
+        let wait = bar.wait(self.last_step());
+        if !wait.is_empty() {
+            write_rect(text, "wait", label, wait, y)?;
         }
-        if bar.got.is_some() {
+        if let Some(hold) = bar.hold(self.last_step()) {
             let kind = if is_strong(bar.tag, bar.mode)
                 || bar.mode.number() > Mode::ShareUpdateExclusive.number()
             {
@@ -166,9 +161,9 @@ impl Timeline {
             } else {
                 "weak"
             };
-            write_rect(text, kind, label, (got, ended, y))?;
+            write_rect(text, kind, label, hold, y)?;
         }
-        let (x, base) = (asked.saturating_add(4), y.saturating_add(11));
+        let (x, base) = (x_of(bar.asked).saturating_add(4), y.saturating_add(11));
         writeln!(text, "<text x=\"{x}\" y=\"{base}\">{label}</text>")
     }
 
@@ -215,15 +210,17 @@ impl Timeline {
     }
 }
 
-/// Writes to `text` a rectangle, a part of a bar, whose top is `y`, from the place `from` to the place `to`, both
-/// from the left. `class` says how it looks, and `label` is shown where the pointer is on it.
+/// Writes to `text` a rectangle, the part of a bar of the steps `span`, whose top is `y`. `class` says how it looks, and
+/// `label` is shown where the pointer is on it.
 fn write_rect(
     text: &mut String,
     class: &str,
     label: &str,
-    (from, to, y): (u32, u32, u32),
+    span: Span,
+    y: u32,
 ) -> Result<(), AllocError> {
-    let width = to.saturating_sub(from).max(3);
+    let from = x_of(span.from);
+    let width = x_of(span.to).saturating_sub(from).max(3);
     let height = ROW - 3;
     writeln!(
         text,

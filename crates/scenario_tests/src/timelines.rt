@@ -23,7 +23,7 @@ const JSON_GANTT: Style = Style {
     graph: Some(Drawing::Gantt),
 };
 
-/// Holds and waits, of two who are in the way, one of them by its wait. The number of a line that is no command is left out.
+/// Holds and waits, of two who are in the way, one of them by its wait. A line that is no command is no step.
 const BARS: StyledRow<'static> = (
     GANTT,
     "\
@@ -44,14 +44,14 @@ gantt
   dateFormat X
   axisFormat %s
   section a
-  5/16384 ShareLock :done, 4, 9
-  5/16385 AccessShareLock :done, 8, 11
+  5/16384 ShareLock :done, 4, 8
+  5/16385 AccessShareLock :done, 7, 10
   section b
-  waits for 5/16384 ExclusiveLock behind a :crit, 6, 9
-  5/16384 ExclusiveLock :done, 9, 10
+  waits for 5/16384 ExclusiveLock behind a :crit, 5, 8
+  5/16384 ExclusiveLock :done, 8, 9
   section c
-  waits for 5/16384 RowExclusiveLock behind a and b :crit, 7, 10
-  5/16384 RowExclusiveLock :done, 10, 12
+  waits for 5/16384 RowExclusiveLock behind a and b :crit, 6, 9
+  5/16384 RowExclusiveLock :done, 9, 11
 ",
 );
 
