@@ -4,16 +4,7 @@ use clap::{Arg, ArgAction, ArgMatches, Command, Error, value_parser};
 use std::alloc::{AllocError, Global};
 
 /// The names of the pages, as the command line has them.
-static PAGES: [&str; 8] = [
-    "local",
-    "manager",
-    "fast",
-    "threads",
-    "handover",
-    "contended",
-    "sessions",
-    "workloads",
-];
+static PAGES: [&str; 3] = ["workloads", "threads", "sessions"];
 
 /// The words of the workloads, each of which can be made alone.
 static WORKLOADS: [&str; 10] = [
@@ -34,51 +25,35 @@ const MOST_STEPS: u32 = 1_000_000_000;
 
 /// The list of the pages that `--help` shows.
 const EACH_PAGE: &str = "Pages, all of which are printed where none is named:
-  local      the local table
-  manager    the lock manager on one thread
-  fast       its fast path on one thread, beside the atomic steps of each row
-  threads    the lock manager in one, two and four threads
-  handover   an exclusive lock that two threads pass back and forth
-  contended  up to 64 threads on one object, on one partition, and at listings,
-             and the same work under a mutex
-  sessions   managers of 8, 64, 256 and 1024 sessions: their memory, what it takes
-             to make one, and what is done with them on one thread; and 1024
-             threads on one object and on one partition
-  workloads  each workload beside its atomic steps and the same work on a map
-             in a mutex, and a table of them all
+  workloads  what one thread does, each row beside its atomic steps and the same work on
+             a map in a mutex; and the local table of a session beside a map
+  threads    up to 64 threads on one object, on one partition, and at listings, and the
+             same under a mutex; and a lock that two threads pass back and forth
+  sessions   managers of 8, 64, 256 and 1024 sessions: their memory, what it takes to
+             make one, and what is done with them; and 1024 threads at one of them
 
 A file of figures is opened before anything is timed, and keeps what it had until
 there are new ones. Its figures are those of the workloads, which are timed for it
 where another page is named.
 
 Example:
-  lock_bench workloads --csv workloads.csv --svg workloads.svg";
+  lock_bench workloads --csv workloads.csv";
 
 /// A page of figures that the program prints.
-#[derive(Clone, Copy, PartialEq, Eq)]
+#[derive(Clone, Copy)]
 pub enum Page {
-    Local,
-    Manager,
-    Fast,
-    Threads,
-    Handover,
-    Contended,
-    Sessions,
     Workloads,
+    Threads,
+    Sessions,
 }
 
 impl Page {
     /// The word that names the page on the command line.
     fn name(self) -> &'static str {
         match self {
-            Page::Local => "local",
-            Page::Manager => "manager",
-            Page::Fast => "fast",
-            Page::Threads => "threads",
-            Page::Handover => "handover",
-            Page::Contended => "contended",
-            Page::Sessions => "sessions",
             Page::Workloads => "workloads",
+            Page::Threads => "threads",
+            Page::Sessions => "sessions",
         }
     }
 }
@@ -90,9 +65,8 @@ pub struct Wanted<'a> {
     pub check: bool,
     /// The name of the only page that is asked for, if a page is named.
     page: Option<&'a str>,
-    /// The file that the figures of the workloads are written to as CSV, if it is named. The one for a chart of them is `svg`.
+    /// The file that the figures of the workloads are written to, if it is named.
     pub csv: Option<&'a str>,
-    pub svg: Option<&'a str>,
     /// The file with the instructions of each workload.
     pub counts: Option<&'a str>,
     /// The workload that is made alone in place of all pages.
@@ -108,14 +82,17 @@ pub struct Alone<'a> {
 }
 
 impl Wanted<'_> {
-    /// Whether `page` is printed: no page is named, or `page` is. The page of the workloads is printed too where a file is to have its figures, or
-    /// has its instructions.
+    /// Whether `page` is printed: no page is named, or `page` is. The page of the workloads is printed too
+    /// where a file is to have its figures, or has its instructions.
     pub fn has(&self, page: Page) -> bool {
-        let is_for_file = self.csv.is_some() || self.svg.is_some() || self.counts.is_some();
-        match self.page {
-            None => true,
-            Some(name) => name == page.name() || (page == Page::Workloads && is_for_file),
-        }
+        let Some(name) = self.page else {
+            return true;
+        };
+        let is_for_file = match page {
+            Page::Workloads => self.csv.is_some() || self.counts.is_some(),
+            _ => false,
+        };
+        is_for_file || name == page.name()
     }
 }
 
@@ -126,7 +103,6 @@ pub fn parse<'a>(alloc: Global, words: &'a [String]) -> Result<Wanted<'a>, Error
         check: matches.get_flag("check"),
         page: matches.get_str("page"),
         csv: matches.get_str("csv"),
-        svg: matches.get_str("svg"),
         counts: matches.get_str("counts"),
         alone: alone_of(&matches),
     })
@@ -168,7 +144,6 @@ fn with_workload<'a>(alloc: Global, command: Command<'a>) -> Result<Command<'a>,
         .conflicts_with("page")?
         .conflicts_with("check")?
         .conflicts_with("csv")?
-        .conflicts_with("svg")?
         .conflicts_with("counts")?;
     let steps = Arg::new(alloc, "steps")
         .long("steps")
@@ -188,11 +163,6 @@ fn with_files<'a>(alloc: Global, command: Command<'a>) -> Result<Command<'a>, Al
             "Also write the figures of the workloads to this file, as values with commas between them",
         )
         .conflicts_with("check")?;
-    let svg = Arg::new(alloc, "svg")
-        .long("svg")
-        .value_name("FILE")
-        .help("Also write a picture of them to this file")
-        .conflicts_with("check")?;
     let counts = Arg::new(alloc, "counts")
         .long("counts")
         .value_name("FILE")
@@ -200,5 +170,5 @@ fn with_files<'a>(alloc: Global, command: Command<'a>) -> Result<Command<'a>, Al
             "Also print the instructions that this file has of each workload, as .ci/instructions.counts",
         )
         .conflicts_with("check")?;
-    command.arg(csv)?.arg(svg)?.arg(counts)
+    command.arg(csv)?.arg(counts)
 }

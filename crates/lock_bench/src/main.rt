@@ -1,33 +1,33 @@
-//! Times the lock manager's parts, a page for each, and ends by itself. With `--check` it makes a small
-//! fixed run instead, whose output does not depend on time.
+//! Times the lock manager's parts, a page for each, and ends by itself. With `--check` it makes a small fixed
+//! run instead, whose output does not depend on time.
 #![tactic(auto)]
 
+mod acts;
 mod arguments;
-mod contended_page;
-mod contention;
-mod counts;
 mod crew;
-mod fast_page;
-mod figure_files;
-mod handover_page;
-mod manager_page;
-mod pair;
+mod doors;
+mod figures;
+mod files;
+mod floors;
+mod job;
+mod keys;
+mod line;
+mod local;
+mod plain;
 mod progress;
-mod session_bed;
-mod session_doors;
-mod session_loops;
-mod session_page;
+mod round;
 mod sessions_page;
+mod shared_map;
+mod steps;
 mod threads_page;
-mod turns;
-mod workloads;
+mod times;
+mod workloads_page;
 
 use crate::arguments::{Page, Wanted, parse};
-use crate::counts::Counts;
-use crate::figure_files::{open_files, write_files};
+use crate::files::{Counts, open_file, write_file};
+use crate::job::Asked;
 use crate::progress::Progress;
-use crate::session_page::Asked;
-use bench_base::{levels_page, local_page};
+use crate::times::see_clocks;
 use modes_core::Owner;
 use std::env;
 use std::fs::Files;
@@ -65,7 +65,8 @@ fn read_words(rt: &HostRuntime) -> io::Result<Vec<String>> {
     Ok(env::args(rt)?.collect(rt.alloc())?)
 }
 
-/// Prints what `words` ask for, and answers the status. What is wrong with `words` is written to `errors`. The progress is shown where `is_terminal`.
+/// Prints what `words` ask for, and answers the status. What is wrong with `words` is written to `errors`.
+/// The progress is shown where `is_terminal`.
 fn run<
     R: Threads + Wait + Clock + CpuClock + AllocGlobal + Print + Eprint + Files + Sync,
     E: Write,
@@ -88,8 +89,8 @@ fn run<
     }
 }
 
-/// How the pages are asked for: for a check with `check`. Database and owner depend on the command line, which
-/// `has_no_words` or has some, so that no call is specialised to them.
+/// How the pages are asked for: for a check with `check`. Database and owner depend on the command line,
+/// which `has_no_words` or has some, so that no call is specialised to them.
 fn asked_of(has_no_words: bool, check: bool) -> Asked {
     let (database, owner) = if has_no_words {
         (1, Owner::Session)
@@ -103,76 +104,37 @@ fn asked_of(has_no_words: bool, check: bool) -> Asked {
     }
 }
 
-/// Prints the pages that are `wanted`, as `asked` for, with `progress`, and writes the files of figures that are `wanted`.
+/// Prints the pages that are `wanted`, as `asked` for, with `progress`, and writes the files of figures that
+/// are `wanted`.
 fn print_pages<R: Threads + Wait + Clock + CpuClock + AllocGlobal + Print + Eprint + Files + Sync>(
     rt: &R,
     wanted: &Wanted<'_>,
     asked: Asked,
     progress: Progress,
 ) -> anyhow::Result<()> {
+    see_clocks(rt)?;
     if let Some(alone) = wanted.alone {
-        return workloads::make_alone(rt, asked, alone.workload, alone.steps);
+        return workloads_page::make_alone(rt, asked, alone.workload, alone.steps);
     }
     let counts = match wanted.counts {
         Some(name) => Some(Counts::read(rt, name)?),
         None => None,
     };
-    workloads::see_counts(counts.as_ref())?;
-    open_files(rt, wanted)?;
-    print_on_one_thread(rt, wanted, asked, progress)?;
-    print_in_threads(rt, wanted, asked, progress)?;
+    workloads_page::see_counts(counts.as_ref())?;
+    if let Some(name) = wanted.csv {
+        open_file(rt, name)?;
+    }
     if wanted.has(Page::Workloads) {
-        let figures = workloads::print(rt, asked, progress, counts.as_ref())?;
-        write_files(rt, wanted, figures.as_slice())?;
+        let figures = workloads_page::print(rt, asked, progress, counts.as_ref())?;
+        if let Some(name) = wanted.csv {
+            write_file(rt, name, figures.as_slice())?;
+        }
     }
-    Ok(())
-}
-
-/// Prints those of the `wanted` pages whose work one thread does, as `asked` for, with `progress`.
-fn print_on_one_thread<R: Wait + CpuClock + AllocGlobal + Print + Eprint>(
-    rt: &R,
-    wanted: &Wanted<'_>,
-    asked: Asked,
-    progress: Progress,
-) -> anyhow::Result<()> {
-    if wanted.has(Page::Local) {
-        progress.note(rt, "the local table");
-        local_page::print(rt, asked.database, asked.owner, asked.check)?;
-        levels_page::print(rt, asked.database, asked.check)?;
-    }
-    if wanted.has(Page::Manager) {
-        progress.note(rt, "the lock manager on one thread");
-        manager_page::print(rt, asked)?;
-    }
-    if wanted.has(Page::Fast) {
-        progress.note(rt, "its fast path");
-        fast_page::print(rt, asked)?;
-    }
-    Ok(())
-}
-
-/// Prints those of the `wanted` pages whose work several threads do, as `asked` for, with `progress`.
-fn print_in_threads<R: Threads + Wait + Clock + CpuClock + AllocGlobal + Print + Eprint + Sync>(
-    rt: &R,
-    wanted: &Wanted<'_>,
-    asked: Asked,
-    progress: Progress,
-) -> anyhow::Result<()> {
     if wanted.has(Page::Threads) {
-        progress.note(rt, "the lock manager in threads");
-        threads_page::print(rt, asked.database, asked.owner, asked.check)?;
-    }
-    if wanted.has(Page::Handover) {
-        progress.note(rt, "a lock handed over");
-        handover_page::print(rt, asked.database, asked.owner, asked.check)?;
-    }
-    if wanted.has(Page::Contended) {
-        progress.note(rt, "many threads on one lock");
-        contended_page::print(rt, asked)?;
+        threads_page::print(rt, asked, progress)?;
     }
     if wanted.has(Page::Sessions) {
-        progress.note(rt, "managers of up to 1024 sessions");
-        sessions_page::print(rt, asked)?;
+        sessions_page::print(rt, asked, progress)?;
     }
     Ok(())
 }

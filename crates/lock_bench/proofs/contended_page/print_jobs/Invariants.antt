@@ -1,9 +1,0 @@
-use Rattle.std.proofs.Common.{◌≡◌, length}
-use Rattle.lock_manager.specs.Crews.{KeepManagers}
-use Rattle.lock_bench.proofs.contended_page.print_jobs.Given as goal
-
-abbrev pub invariant-jobs : goal.invariant-jobs
-invariant-jobs g l = record {
-  own : KeepManagers g.B.Board.seat l.fn.crew.items l.crew.items;
-  as_many : length l.crew.items ≡ length l.fn.crew.items;
-}
