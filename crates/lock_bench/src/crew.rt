@@ -39,17 +39,14 @@ fn make_part<B: Board<Part>, R: Wait + Clock + CpuClock>(
     commit(rt, session);
 }
 
-/// Makes a round of `job` by `sessions`: each takes what it holds throughout, and then makes its steps,
-/// beside the others or one after another.
-fn play_round<B: Board<Part> + Send, R: Threads + Wait + Clock + CpuClock + Sync>(
+/// Has each of `sessions` take what it holds throughout in a round of `job`.
+fn take_held<B: Board<Part> + Send, R: Threads + Wait + Sync>(
     rt: &R,
     sessions: &mut [OwnSession<Part, B>],
     job: &Job,
-) -> Taken
+)
     ensures own { KeepManagers B.seat sessions.old sessions.new }
 {
-    let round = Round::new(job);
-    let threads = (job.threads as usize).max(1);
     for_each_mut(
         rt,
         sessions,
@@ -58,12 +55,36 @@ fn play_round<B: Board<Part> + Send, R: Threads + Wait + Clock + CpuClock + Sync
             lock_all(rt, session, job.held_by(number));
         },
     );
+}
+
+/// Has each of `sessions` make its part of `round`, beside the others or one after another.
+fn make_parts<B: Board<Part> + Send, R: Threads + Wait + Clock + CpuClock + Sync>(
+    rt: &R,
+    sessions: &mut [OwnSession<Part, B>],
+    round: &Round<'_>,
+)
+    ensures own { KeepManagers B.seat sessions.old sessions.new }
+{
+    let threads = (round.job.threads as usize).max(1);
     for_each_mut(
         rt,
         sessions,
         threads,
-        &|number, session| make_part(rt, session, number, &round),
+        &|number, session| make_part(rt, session, number, round),
     );
+}
+
+/// Makes a round of `job` by `sessions`.
+fn play_round<B: Board<Part> + Send, R: Threads + Wait + Clock + CpuClock + Sync>(
+    rt: &R,
+    sessions: &mut [OwnSession<Part, B>],
+    job: &Job,
+) -> Taken
+    ensures own { KeepManagers B.seat sessions.old sessions.new }
+{
+    let round = Round::new(job);
+    take_held(rt, sessions, job);
+    make_parts(rt, sessions, &round);
     round.into_taken()
 }
 
@@ -72,14 +93,13 @@ fn play_rounds<B: Board<Part> + Send, R: Threads + Wait + Clock + CpuClock + Syn
     rt: &R,
     sessions: &mut [OwnSession<Part, B>],
     line: &mut Line,
-) -> Result<()>
+)
     ensures own { KeepManagers B.seat sessions.old sessions.new }
 {
     'rounds: for _ in 0..line.rounds {
         let taken = play_round(rt, sessions, &line.job);
-        line.note(rt, taken)?;
+        line.note(rt, taken);
     }
-    Ok(())
 }
 
 /// Makes all rounds of `line` by the sessions of `crew`, all of which `_desk` has open.
@@ -87,13 +107,13 @@ fn play_crew<
     B: Board<Part> + Send,
     D: Desk<OwnSession<Part, B>>,
     R: Threads + Wait + Clock + CpuClock + Sync,
->(rt: &R, _desk: &D, crew: &mut Vec<OwnSession<Part, B>>, line: &mut Line) -> Result<()>
+>(rt: &R, _desk: &D, crew: &mut Vec<OwnSession<Part, B>>, line: &mut Line)
     requires own { AreOf B.seat (D.manager _desk.now) crew.old.items }
     requires live { D.live _desk.now ≡ length crew.old.items }
     ensures own { AreOf B.seat (D.manager _desk.now) crew.new.items }
     ensures live { D.live _desk.now ≡ length crew.new.items }
 {
-    play_rounds(rt, crew.as_mut_slice(), line)
+    play_rounds(rt, crew.as_mut_slice(), line);
 }
 
 /// Makes all rounds of `line` by sessions from `desk`, which work in `database`. The desk has no session open
@@ -111,9 +131,9 @@ fn play_at<
     let mut crew = Vec::new(rt.alloc());
     match open_sessions(rt, desk, &mut crew, database, line.job.sessions()) {
         Ok(()) => {
-            let played = play_crew(rt, desk, &mut crew, line);
+            play_crew(rt, desk, &mut crew, line);
             close_sessions(rt, desk, crew);
-            played
+            Ok(())
         }
         Err(refusal) => {
             close_sessions(rt, desk, crew);
@@ -145,9 +165,10 @@ pub fn play<R: Threads + Wait + Clock + CpuClock + AllocGlobal + Sync>(
     database: u32,
 ) -> Result<()> {
     match line.plan.plain {
-        Plain::Nothing => play_by_sessions(rt, line, database),
+        Plain::Nothing => play_by_sessions(rt, line, database)?,
         plain => line.play_rounds(rt, plain),
     }
+    line.see_granted()
 }
 
 /// Makes all rounds of `line` by sessions of a manager of its own, which work in `database`.

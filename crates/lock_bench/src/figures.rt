@@ -28,8 +28,7 @@ pub struct Figures {
     pub instructions: Option<u64>,
 }
 
-/// How many times `whole` the time `part` is. What is written is nothing where `whole` is less than a
-/// nanosecond.
+/// How many times `whole` the time `part` is; a dash is written where `whole` is less than a nanosecond.
 #[derive(Clone, Copy)]
 struct Ratio {
     part: Tenths,
@@ -39,7 +38,7 @@ struct Ratio {
 impl fmt::Display for Ratio {
     fn fmt<W: fmt::Write>(&self, f: &mut fmt::Formatter<W>) -> fmt::Result {
         if self.whole.0 < NANOSECOND {
-            return Ok(());
+            return write!(f, "-");
         }
         let part = self.part.0.saturating_mul(100);
         let ratio = part.checked_div(self.whole.0).unwrap_or(0);
@@ -96,7 +95,7 @@ pub fn print_rows_heading<R: Print>(rt: &R, name: &str, check: bool) -> io::Resu
 }
 
 /// Writes `figures` as lines of values with commas between them. The first line names the values. Where
-/// something isn't known its value is empty.
+/// something isn't known its value is empty, or a dash.
 pub fn csv(alloc: Global, figures: &[Figures]) -> Result<String, AllocError> {
     let mut text = String::new(alloc);
     text.push_str(

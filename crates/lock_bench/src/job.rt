@@ -198,6 +198,11 @@ impl Job {
         }
     }
 
+    /// How many of these steps are to be granted.
+    pub fn granted(&self) -> u64 {
+        self.act.granted(self.steps())
+    }
+
     /// How many holds there are beside those of the job's own steps.
     pub fn held(&self) -> usize {
         self.held_by(0).len().saturating_add(self.held_by(1).len())

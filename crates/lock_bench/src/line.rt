@@ -28,7 +28,8 @@ pub struct Line {
     empty: Times,
     floor: Times,
     map: Times,
-    /// How many steps of the last round were granted, and how many of those on the map.
+    /// How many steps of the last round were granted, or of the first one in which these were more or fewer
+    /// than it is of the row; and how many of those on the map.
     granted: u64,
     counted: u64,
 }
@@ -37,8 +38,10 @@ impl Line {
     /// The line of `plan`, as `asked` for, of which no round was made.
     pub fn new<R: Wait + AllocGlobal>(rt: &R, plan: Plan, asked: Asked) -> Result<Self> {
         let new = Times::new();
+        let job = Job::new(rt.alloc(), &plan, asked)?;
+        let wanted = job.granted();
         Ok(Line {
-            job: Job::new(rt.alloc(), &plan, asked)?,
+            job,
             bed: Bed::new(rt, &plan, asked.database)?,
             rounds: asked.rounds(plan.rounds),
             plan,
@@ -48,7 +51,7 @@ impl Line {
             empty: new,
             floor: new,
             map: new,
-            granted: 0,
+            granted: wanted,
             counted: 0,
         })
     }
@@ -66,32 +69,33 @@ impl Line {
         &mut self,
         rt: &R,
         plain: Plain,
-    ) -> Result<()> {
+    ) {
         for _ in 0..self.rounds {
             let taken = self.play(rt, plain);
-            self.note(rt, taken)?;
+            self.note(rt, taken);
         }
-        Ok(())
     }
 
-    /// Notes what was `taken` in the next round, and times what is compared with it. Refused where more or
-    /// fewer steps were granted than it is of the row: the figures would be of something else.
-    pub fn note<R: Threads + Wait + Clock + CpuClock + Sync>(
-        &mut self,
-        rt: &R,
-        taken: Taken,
-    ) -> Result<()> {
+    /// Notes what was `taken` in the next round, and times what is compared with it.
+    pub fn note<R: Threads + Wait + Clock + CpuClock + Sync>(&mut self, rt: &R, taken: Taken) {
         let steps = self.job.steps();
-        let wanted = self.job.act.granted(steps);
-        self.granted = taken.counted;
-        if self.granted != wanted {
-            let (name, granted) = (self.plan.name, self.granted);
-            bail!("{name}: of {steps} steps {granted} were granted, in place of {wanted}");
+        if self.granted == self.job.granted() {
+            self.granted = taken.counted;
         }
         self.wall.note(taken.wall(), steps);
         self.processor.note(taken.processor, steps);
         self.longest.note(taken.longest, 1);
         self.compare(rt, steps);
+    }
+
+    /// Refuses the row where more or fewer of its steps were granted in a round than it is of the row: the
+    /// figures would be of something else.
+    pub fn see_granted(&self) -> Result<()> {
+        let (granted, wanted) = (self.granted, self.job.granted());
+        if granted != wanted {
+            let (name, steps) = (self.plan.name, self.job.steps());
+            bail!("{name}: of {steps} steps {granted} were granted, in place of {wanted}");
+        }
         Ok(())
     }
 

@@ -57,12 +57,20 @@ impl Times {
 
     /// The median of the times, with the smallest and the largest.
     pub fn spread(mut self) -> Spread {
-        let made = self.made.min(ROUNDS);
+        let made = self.made.min(self.tenths.len());
         self.tenths[..made].sort_unstable();
         Spread {
-            median: Tenths(self.tenths[made / 2]),
-            least: Tenths(self.tenths[0]),
-            most: Tenths(self.tenths[made.saturating_sub(1)]),
+            median: self.at(made / 2),
+            least: self.at(0),
+            most: self.at(made.saturating_sub(1)),
+        }
+    }
+
+    /// The time at `place`; 0 if there is none.
+    fn at(&self, place: usize) -> Tenths {
+        match self.tenths.get(place) {
+            Some(tenths) => Tenths(*tenths),
+            None => Tenths(0),
         }
     }
 }
