@@ -39,8 +39,20 @@ fn make_part<B: Board<Part>, R: Wait + Clock + CpuClock>(
     commit(rt, session);
 }
 
+/// Takes by `session`, which has the number `number`, what it holds throughout in a round of `job`.
+fn hold<B: Board<Part>, R: Wait>(
+    rt: &R,
+    session: &mut OwnSession<Part, B>,
+    number: usize,
+    job: &Job,
+)
+    ensures seat { KeepsSeat B.seat session.old session.new }
+{
+    let _ = lock_all(rt, session, job.held_by(number));
+}
+
 /// Has each of `sessions` take what it holds throughout in a round of `job`.
-fn take_held<B: Board<Part> + Send, R: Threads + Wait + Sync>(
+fn hold_all<B: Board<Part> + Send, R: Threads + Wait + Sync>(
     rt: &R,
     sessions: &mut [OwnSession<Part, B>],
     job: &Job,
@@ -51,9 +63,7 @@ fn take_held<B: Board<Part> + Send, R: Threads + Wait + Sync>(
         rt,
         sessions,
         1,
-        &|number, session| {
-            lock_all(rt, session, job.held_by(number));
-        },
+        &|number, session| hold(rt, session, number, job),
     );
 }
 
@@ -83,27 +93,40 @@ fn play_round<B: Board<Part> + Send, R: Threads + Wait + Clock + CpuClock + Sync
     ensures own { KeepManagers B.seat sessions.old sessions.new }
 {
     let round = Round::new(job);
-    take_held(rt, sessions, job);
+    hold_all(rt, sessions, job);
     make_parts(rt, sessions, &round);
     round.into_taken()
 }
 
-/// Makes all rounds of `line` by `sessions`.
+/// Makes a round of `job` by the sessions of the list `crew`.
+fn play_crew<B: Board<Part> + Send, R: Threads + Wait + Clock + CpuClock + Sync>(
+    rt: &R,
+    crew: &mut Vec<OwnSession<Part, B>>,
+    job: &Job,
+) -> Taken
+    ensures own { KeepManagers B.seat crew.old.items crew.new.items }
+    ensures as_many { length crew.new.items ≡ length crew.old.items }
+{
+    play_round(rt, crew.as_mut_slice(), job)
+}
+
+/// Makes all rounds of `line` by the sessions of `crew`.
 fn play_rounds<B: Board<Part> + Send, R: Threads + Wait + Clock + CpuClock + Sync>(
     rt: &R,
-    sessions: &mut [OwnSession<Part, B>],
+    crew: &mut Vec<OwnSession<Part, B>>,
     line: &mut Line,
 )
-    ensures own { KeepManagers B.seat sessions.old sessions.new }
+    ensures own { KeepManagers B.seat crew.old.items crew.new.items }
+    ensures as_many { length crew.new.items ≡ length crew.old.items }
 {
     'rounds: for _ in 0..line.rounds {
-        let taken = play_round(rt, sessions, &line.job);
+        let taken = play_crew(rt, crew, &line.job);
         line.note(rt, taken);
     }
 }
 
 /// Makes all rounds of `line` by the sessions of `crew`, all of which `_desk` has open.
-fn play_crew<
+fn play_open<
     B: Board<Part> + Send,
     D: Desk<OwnSession<Part, B>>,
     R: Threads + Wait + Clock + CpuClock + Sync,
@@ -113,7 +136,7 @@ fn play_crew<
     ensures own { AreOf B.seat (D.manager _desk.now) crew.new.items }
     ensures live { D.live _desk.now ≡ length crew.new.items }
 {
-    play_rounds(rt, crew.as_mut_slice(), line);
+    play_rounds(rt, crew, line);
 }
 
 /// Makes all rounds of `line` by sessions from `desk`, which work in `database`. The desk has no session open
@@ -131,7 +154,7 @@ fn play_at<
     let mut crew = Vec::new(rt.alloc());
     match open_sessions(rt, desk, &mut crew, database, line.job.sessions()) {
         Ok(()) => {
-            play_crew(rt, desk, &mut crew, line);
+            play_open(rt, desk, &mut crew, line);
             close_sessions(rt, desk, crew);
             Ok(())
         }

@@ -5,17 +5,19 @@ use Rattle.lock_bench.proofs.crew.play_crew.Goals as goal
 
 pub returns : goal.returns
 returns g c =
-    let manager = g.D.Desk.manager c.args._desk.now in
     let list = c.args.crew.now in
-    let sessions = c.play_rounds.new.sessions in
+    let sessions = c.play_round.new.sessions in
     let rest = drop (length sessions) list.items in
     let many : list.len ≡ length sessions =
-    omega (arith, list.ok.0, c.as_mut_slice.ensures.len, c.play_rounds.auto.sessions) in
+    omega (arith, list.ok.0, c.as_mut_slice.ensures.len, c.play_round.auto.sessions) in
     let whole : take list.len (sessions ++ rest) ≡ sessions =
     ap (λ n. take n (sessions ++ rest)) many ∙ take-append_seam sessions rest in
     record {
-      own = subst (λ those. AreOf g.B.Board.seat manager those) (sym whole)
-          (c.play_rounds.ensures.own.each manager
-          (subst (λ those. AreOf g.B.Board.seat manager those) (sym c.as_mut_slice.ensures.value) c.requires.own));
-      live = c.requires.live ∙ rw whole (omega (arith, many, list.ok.0));
+      own = record {
+        each = λ manager own.
+            subst (λ those. AreOf g.B.Board.seat manager those) (sym whole)
+            (c.play_round.ensures.own.each manager
+            (subst (λ those. AreOf g.B.Board.seat manager those) (sym c.as_mut_slice.ensures.value) own));
+      };
+      as_many = rw whole (omega (arith, many, list.ok.0));
     }

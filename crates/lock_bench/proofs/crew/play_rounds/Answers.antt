@@ -1,6 +1,10 @@
+use Rattle.std.proofs.Common.{◌∙◌}
 use Rattle.lock_bench.proofs.crew.play_rounds.Goals as goal
 
 pub rounds-preserved : goal.rounds-preserved
 rounds-preserved g c = record {
-  each = λ manager own. c.play_round.ensures.own.each manager (c.rounds.invariant.each manager own);
+  own = record {
+    each = λ manager own. c.play_crew.ensures.own.each manager (c.rounds.invariant.own.each manager own);
+  };
+  as_many = c.play_crew.ensures.as_many ∙ c.rounds.invariant.as_many;
 }
