@@ -17,7 +17,7 @@ pub enum Unlocked {
 }
 
 /// The answer to an acquire that makes only a short look at the local lock table.
-#[derive(Clone, Copy, Debug, PartialEq, Eq)]
+#[derive(Clone, Copy, PartialEq, Eq)]
 pub enum AtOnce {
     /// The session had the mode before, and has it once more.
     AlreadyHeld,

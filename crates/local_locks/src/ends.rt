@@ -4,7 +4,7 @@ use crate::Entry;
 use modes_core::LockMethod;
 
 /// What ends (the arguments of `LockReleaseAll` in lock.c).
-#[derive(Clone, Copy, Debug, PartialEq, Eq)]
+#[derive(Clone, Copy, PartialEq, Eq)]
 pub enum End {
     /// A commit drops the transaction's counts and keeps the session's.
     Commit,
@@ -48,7 +48,7 @@ impl End {
 
 /// The end that took the last step, and the place of the slot that this end has come to: before that slot it has
 /// nothing to do.
-#[derive(Clone, Copy, Debug)]
+#[derive(Clone, Copy)]
 pub(crate) struct Progress {
     end: End,
     place: usize,

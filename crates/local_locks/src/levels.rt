@@ -20,7 +20,7 @@ pub(crate) const MOST_INNER: u8 = MOST_LEVELS - 1;
 
 /// The transaction's count of an entry when each inner level began, for the first inner level first, up to the last
 /// one that has counted the entry. Contracts see the list of counts.
-#[derive(Debug, Drop)]
+#[derive(Drop)]
 pub(crate) struct OuterCounts {
     len: u8,
     counts: [u16; 15],

@@ -4,7 +4,7 @@ use crate::looks::is_same_pair;
 use modes_core::{Mode, Owner, Tag};
 
 /// An object and a lock mode in which the session has it, and how often for each owner (`LOCALLOCK` in lock.h).
-#[derive(Clone, Copy, Debug, PartialEq, Eq)]
+#[derive(Clone, Copy, PartialEq, Eq)]
 pub struct Entry {
     pub tag: Tag,
     pub mode: Mode,

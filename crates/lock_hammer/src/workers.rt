@@ -95,7 +95,7 @@ impl<'a, P: Progress> Reports<'a, P> {
 }
 
 /// What all workers do in one part of the hammer.
-#[derive(Clone, Copy, Debug, PartialEq, Eq)]
+#[derive(Clone, Copy)]
 pub enum Task {
     /// Each worker asks the gate and plays this number of rounds, beside the others.
     Rounds(u32),

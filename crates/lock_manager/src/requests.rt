@@ -24,7 +24,7 @@ use std::sync::Wait;
 use wait_queue::{Decision, Kind, decide};
 
 /// How an acquire begins that is not refused.
-#[derive(Clone, Copy, Debug, PartialEq, Eq)]
+#[derive(Clone, Copy)]
 pub enum Begun {
     /// The session has the mode newly.
     Granted,

@@ -33,7 +33,7 @@ pub enum Asked {
 }
 
 /// What a session that waits finds when it looks.
-#[derive(Clone, Copy, Debug, PartialEq, Eq)]
+#[derive(Clone, Copy)]
 pub enum Looked {
     /// The session's wait was granted, and has ended.
     Granted,

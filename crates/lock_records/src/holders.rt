@@ -13,7 +13,7 @@ use slab::Slab;
 
 /// The lock modes in which a session holds an object (`PROCLOCK` in lock.h, with its `holdMask`), and the place of
 /// the object's next holder record.
-#[derive(Clone, Copy, Debug)]
+#[derive(Clone, Copy)]
 pub struct HolderRecord {
     pub tag: Tag,
     pub next: usize,
@@ -23,7 +23,7 @@ pub struct HolderRecord {
 
 /// The chain of an object's holder records: how many there are, and the place of the first one (`procLocks` of `LOCK`
 /// in lock.h).
-#[derive(Clone, Copy, Debug)]
+#[derive(Clone, Copy)]
 pub struct Holders {
     pub first: usize,
     pub count: u16,

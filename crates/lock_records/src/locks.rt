@@ -14,7 +14,7 @@ use slab::Slab;
 
 /// What a partition keeps of an object that is held or awaited (`LOCK` in lock.h): the chain of its holder records,
 /// how many holds there are in each lock mode, and how many waits for each.
-#[derive(Debug, Drop)]
+#[derive(Drop)]
 pub struct LockRecord {
     pub tag: Tag,
     pub holders: Holders,

@@ -10,7 +10,7 @@ use std::marker::Model;
 /// How many holds or waits there are of each lock mode, with their total and the mask of the modes of which there is
 /// one: what lock.h keeps for a lock in `granted`, `nGranted` and `grantMask`, and in `requested`, `nRequested` and
 /// `waitMask`. Contracts see the list of numbers, by the mode's number; place 0 is unused.
-#[derive(Debug, Drop)]
+#[derive(Drop)]
 pub struct Tally {
     by_mode: [u16; 9],
     total: u16,

@@ -1,7 +1,7 @@
 //! What came of a call for which a growth was to be refused.
 
 /// How a call went for which a growth was to be refused.
-#[derive(Clone, Copy, Debug, PartialEq, Eq)]
+#[derive(Clone, Copy, PartialEq, Eq)]
 pub enum Told {
     /// No growth of the call was refused, and the call answered as it is to.
     Answered,

@@ -5,7 +5,7 @@ use lock_table::PartTable;
 use modes_core::{Mode, SessionId, Tag};
 
 /// What a session waits for.
-#[derive(Clone, Copy, Debug, PartialEq, Eq)]
+#[derive(Clone, Copy)]
 pub struct Awaited {
     /// The object that the session waits for.
     pub tag: Tag,

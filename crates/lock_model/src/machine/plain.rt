@@ -4,7 +4,7 @@ use lw_word::LwWord;
 use modes_core::{Mode, ModeSet, SessionId, Tag};
 
 /// Where a hold is recorded.
-#[derive(Clone, Copy, Debug, PartialEq, Eq, PartialOrd, Ord)]
+#[derive(Clone, Copy, PartialEq, Eq, PartialOrd, Ord)]
 pub enum Spot {
     /// In the fast-path slot at this place, one of those of the hold's session.
     Slot(u8),
@@ -14,7 +14,7 @@ pub enum Spot {
 
 /// A hold. Holds are ordered by session, then by the tag's numbers, then by the mode's number, and then by
 /// their places: the fast-path slots by their places, and the lock table after them.
-#[derive(Clone, Copy, Debug, PartialEq, Eq, PartialOrd, Ord)]
+#[derive(Clone, Copy, PartialEq, Eq, PartialOrd, Ord)]
 pub struct Hold {
     /// The session that has the hold.
     pub session: SessionId,
@@ -27,7 +27,7 @@ pub struct Hold {
 }
 
 /// A wait in an object's queue, with the modes that its session held when it joined.
-#[derive(Clone, Copy, Debug, PartialEq, Eq)]
+#[derive(Clone, Copy)]
 pub struct QueuedWait {
     /// The session that waits.
     pub session: SessionId,
@@ -40,7 +40,7 @@ pub struct QueuedWait {
 }
 
 /// What a run of events leads to, as plain lists.
-#[derive(Debug, Drop)]
+#[derive(Drop)]
 pub struct Plain {
     pub(crate) holds: Vec<Hold>,
     pub(crate) waits: Vec<QueuedWait>,

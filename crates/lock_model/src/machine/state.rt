@@ -28,7 +28,7 @@ pub struct Numbers {
 }
 
 /// What the words of the shared table show.
-#[derive(Clone, Copy, Debug)]
+#[derive(Clone, Copy)]
 pub struct Words {
     /// The lightweight lock of each partition.
     pub partitions: [LwWord; 16],
@@ -79,7 +79,7 @@ pub struct OwnWaits {
 }
 
 /// Sessions' databases and fast-path slots, and which strong lock counter each session has read as 0.
-#[derive(Clone, Copy, Debug)]
+#[derive(Clone, Copy)]
 pub struct FastPath {
     /// The database of each session.
     pub databases: [u32; 64],
@@ -108,7 +108,7 @@ impl FastPath {
 }
 
 /// A strong lock that a session has counted, and the position up to which the session has gone past others.
-#[derive(Clone, Copy, Debug)]
+#[derive(Clone, Copy)]
 pub struct CountedBy {
     /// The session that has counted the strong lock.
     pub session: SessionId,
@@ -122,7 +122,7 @@ pub struct CountedBy {
 
 /// A session that waits for a lightweight lock, by the number of the lock: twice the partition, or twice the session
 /// whose slots the lock guards and 1 more.
-#[derive(Clone, Copy, Debug)]
+#[derive(Clone, Copy)]
 pub struct Sleeper {
     /// The number of the lightweight lock that the session waits for: twice the partition, or twice the session whose
     /// slots the lock guards and 1 more.
@@ -132,7 +132,7 @@ pub struct Sleeper {
 }
 
 /// The wait lists of lightweight locks, the sleep words, and what sessions know of lists.
-#[derive(Debug, Drop)]
+#[derive(Drop)]
 pub struct Lists {
     /// The sleep word of each session.
     pub sleep: [u8; 64],

@@ -18,7 +18,7 @@ const BY_SLOT: u32 = 16;
 
 /// How many sessions a manager has, and how many entries each of them has. Each takes more modes than it has room for
 /// in slots.
-#[derive(Clone, Copy, Debug)]
+#[derive(Clone, Copy)]
 pub struct Limits {
     pub sessions: u32,
     pub entries: u32,
