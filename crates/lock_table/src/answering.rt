@@ -95,7 +95,7 @@ fn waiter_against<P: PartTable>(part: &P, tag: &Tag, mode: Mode) -> Option<Waite
 }
 
 /// What a request that may wait is answered.
-#[derive(Clone, Copy, Debug, PartialEq, Eq)]
+#[derive(Clone, Copy, PartialEq, Eq)]
 pub enum Answer {
     /// The session that makes the request is to have its hold.
     Granted,

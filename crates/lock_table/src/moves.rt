@@ -1,7 +1,7 @@
 use modes_core::{Mode, Tag};
 
 /// What a session does to a partition's content between taking it and putting it back.
-#[derive(Clone, Copy, Debug, PartialEq, Eq)]
+#[derive(Clone, Copy, PartialEq, Eq)]
 pub enum Move {
     /// The session leaves the content as it is.
     Keep,

@@ -19,7 +19,7 @@ use crate::waits::Waiter;
 use modes_core::{Mode, ModeSet, SessionId, Tag, conflicts};
 
 /// A wait in a partition: on which object, and what the object's queue has of the wait.
-#[derive(Clone, Copy, Debug, PartialEq, Eq)]
+#[derive(Clone, Copy, PartialEq, Eq)]
 pub struct PartWait {
     /// The object that the wait is for.
     pub tag: Tag,

@@ -5,7 +5,7 @@ ghost use Rattle.lock_table.specs.Request.{is_request_of, is_request_on, is_in_t
 use modes_core::{Mode, ModeSet, SessionId, Tag};
 
 /// What a session asks for or holds: a mode on an object.
-#[derive(Clone, Copy, Debug, PartialEq, Eq)]
+#[derive(Clone, Copy, PartialEq, Eq)]
 pub struct Request {
     /// The session that asks for a mode on an object or holds the object in that mode.
     pub session: SessionId,

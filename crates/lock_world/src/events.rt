@@ -3,7 +3,7 @@ use lw_word::LwMode;
 use modes_core::{Mode, SessionId, Tag};
 
 /// A word of the shared table. Every atomic step is on one word.
-#[derive(Clone, Copy, Debug, PartialEq, Eq)]
+#[derive(Clone, Copy)]
 pub enum Word {
     /// The lightweight lock of a partition, 0 to 15 (`LockHashPartitionLockByIndex` in lock.h).
     Partition(u8),
@@ -23,7 +23,7 @@ pub enum Word {
 }
 
 /// An atomic step of a session on one word of the shared table.
-#[derive(Clone, Copy, Debug, PartialEq, Eq)]
+#[derive(Clone, Copy)]
 pub enum Step {
     /// Take a lightweight lock exclusively, by a compare-exchange; the content of a partition comes
     /// with its word (`LWLockAcquire` in lwlock.c).
@@ -240,7 +240,7 @@ pub enum Step {
 }
 
 /// One atomic step of one session.
-#[derive(Clone, Copy, Debug, PartialEq, Eq)]
+#[derive(Clone, Copy)]
 pub struct Event {
     /// The session that makes the step.
     pub session: SessionId,
