@@ -7,7 +7,7 @@ use lock_table::PartTable;
 
 /// The sizes that a shared table is made with: how many sessions there can be, and how many groups of fast-path slots
 /// each has (`MaxBackends` and, in version 18, `FastPathLockGroupsPerBackend`).
-#[derive(Clone, Copy, Debug, PartialEq, Eq)]
+#[derive(Clone, Copy)]
 pub struct TableSizes {
     /// How many sessions there can be.
     pub sessions: u16,
