@@ -16,7 +16,7 @@ pub enum Kind {
 }
 
 /// What became of a request that was not refused.
-#[derive(Clone, Copy, Debug, PartialEq, Eq)]
+#[derive(Clone, Copy, PartialEq, Eq)]
 pub enum Decision {
     /// The request was granted: it is a hold now.
     Granted,
