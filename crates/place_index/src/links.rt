@@ -7,7 +7,7 @@ pub(crate) const END: u32 = u32::MAX;
 const FREE: u32 = u32::MAX - 1;
 
 /// What an index keeps of a place: the hash that it is noted under and the next place of its chain, or that it isn't noted.
-#[derive(Clone, Copy, Debug)]
+#[derive(Clone, Copy)]
 pub struct Link {
     hash: u32,
     next: u32,
