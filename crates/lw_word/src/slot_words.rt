@@ -8,7 +8,7 @@ use std::marker::Model;
 /// The word of a fast-path slot: the relation in bits 0 to 31, and bits 32, 33 and 34 for `AccessShareLock`,
 /// `RowShareLock` and `RowExclusiveLock` (`fpRelId` and `fpLockBits` of a `PGPROC` in proc.h). A slot with no
 /// mode bit is empty. Contracts see the number, and read it by `shows`.
-#[derive(Clone, Copy, Debug, Default, PartialEq, Eq, Hash)]
+#[derive(Clone, Copy, Default)]
 pub struct SlotWord {
     number: u64,
 }

@@ -10,7 +10,7 @@ use std::alloc::{AllocError, Global};
 use std::marker::Model;
 
 /// A session that waits for a lightweight lock, and how it wants to take the lock (`lwWaitMode` of a `PGPROC` in proc.h).
-#[derive(Clone, Copy, Debug, Default, PartialEq, Eq)]
+#[derive(Clone, Copy, Default, PartialEq, Eq)]
 pub struct LwWaiter {
     /// The session that waits for the lightweight lock.
     pub session: SessionId,
@@ -26,7 +26,7 @@ pub const MOST_TAKEN_OFF: usize = 64;
 pub type TakenOff = ArrayVec<LwWaiter, MOST_TAKEN_OFF>;
 
 /// What a wakeup of a lightweight lock's wait list leads to: whom it takes off, and whether release-ok is to be set.
-#[derive(Debug, Drop)]
+#[derive(Drop)]
 pub struct Wakeup {
     /// The sessions to wake, which were taken off the wait list.
     pub taken: TakenOff,
@@ -38,7 +38,7 @@ pub struct Wakeup {
 /// The wait list of a lightweight lock, first come first (`waiters` of an `LWLock` in lwlock.h). Contracts see the waiters, and
 /// how many sessions there can be: session numbers are those below that. A session is in the list once at most, and there is
 /// room for all sessions, so that nothing but `new` takes memory.
-#[derive(Debug, Drop)]
+#[derive(Drop)]
 pub struct WaitList {
     waiters: Vec<LwWaiter>,
     room: u16,

@@ -4,7 +4,7 @@
 ghost use Rattle.std.specs.Prelude.{◌≡◌, ◌%◌, ◌/◌, ◌==◌};
 
 /// What bits 0 to 1 of a session's wait word say of its wait in the queue of an object (`ProcWaitStatus` in proc.h).
-#[derive(Clone, Copy, Debug, PartialEq, Eq)]
+#[derive(Clone, Copy)]
 pub enum WaitState {
     /// The session doesn't wait in the queue of an object.
     NotWaiting = 0,
@@ -18,7 +18,7 @@ pub enum WaitState {
 pub const CANCEL_ASKED: u64 = 4;
 
 /// What a session's sleep word says of its wait in the list of a lightweight lock (`LWLockWaitState` in lwlock.h).
-#[derive(Clone, Copy, Debug, PartialEq, Eq)]
+#[derive(Clone, Copy)]
 pub enum SleepState {
     /// The session is in no wait list, and no wakeup of it is under way (`LW_WS_NOT_WAITING`).
     NotWaiting = 0,

@@ -8,7 +8,7 @@ use std::marker::Model;
 
 /// How a lightweight lock is taken (`LWLockMode` in lwlock.h): by one session, or by many at a time. The
 /// default, `Exclusive`, is what unused places of bounded lists have.
-#[derive(Clone, Copy, Debug, Default, PartialEq, Eq, Hash)]
+#[derive(Clone, Copy, Default, PartialEq, Eq)]
 pub enum LwMode {
     /// By one session alone (`LW_EXCLUSIVE`).
     #[default]
@@ -46,7 +46,7 @@ impl LwMode {
 ///
 /// The calls make a new word of an old one and change nothing. The contract of each call says what the call means, and also
 /// what it does to the number, which is what the atomic operation of the shared table does.
-#[derive(Clone, Copy, Debug, PartialEq, Eq, Hash)]
+#[derive(Clone, Copy)]
 pub struct LwWord {
     number: u64,
 }

@@ -9,7 +9,7 @@ use std::marker::Model;
 
 /// A set of lock modes (`LOCKMASK` in lockdefs.h): each mode has the bit `1 << number`. Contracts see
 /// the mask, and read it by `set_has`.
-#[derive(Clone, Copy, Debug, PartialEq, Eq, Hash)]
+#[derive(Clone, Copy, Debug, PartialEq, Eq)]
 pub struct ModeSet {
     mask: u16,
 }

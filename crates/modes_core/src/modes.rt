@@ -5,10 +5,9 @@ use std::fmt;
 
 /// A lock mode, weakest first (`AccessShareLock` to `AccessExclusiveLock` in lockdefs.h). The default, the
 /// weakest, is what unused places of bounded lists have.
-#[derive(Clone, Copy, Debug, Default, PartialEq, Eq, PartialOrd, Ord, Hash)]
+#[derive(Clone, Copy, Debug, PartialEq, Eq, PartialOrd, Ord, Hash)]
 pub enum Mode {
     /// What a query takes (`SELECT`).
-    #[default]
     AccessShare = 1,
     /// What a query that locks rows takes (`SELECT FOR UPDATE`).
     RowShare = 2,

@@ -59,7 +59,7 @@ impl fmt::Display for SessionId {
 
 /// Whose a lock is (`ResourceOwner` in resowner.h): the transaction's, where the lock ends with the transaction, or the
 /// session's, where the lock outlives a commit.
-#[derive(Clone, Copy, Debug, PartialEq, Eq, Hash)]
+#[derive(Clone, Copy, Debug, PartialEq, Eq)]
 pub enum Owner {
     /// The session: the lock stays at the end of a transaction.
     Session,

@@ -21,7 +21,7 @@ pub const STRONG_COUNTERS: u32 = 1024;
 /// Whose rules a lock follows (`LOCKMETHODID` in lock.h): the server's own locks have the default method, those
 /// that applications name have the user method. Both have the same modes and conflicts; they differ in what an
 /// abort leaves to the session.
-#[derive(Clone, Copy, Debug, PartialEq, Eq)]
+#[derive(Clone, Copy, PartialEq, Eq)]
 pub enum LockMethod {
     /// The lock method of the server's own locks (`DEFAULT_LOCKMETHOD`).
     Default,
