@@ -25,7 +25,7 @@ pub struct Target {
 }
 
 /// What a line of a script asks for.
-#[derive(Clone, Copy, Debug, PartialEq, Eq)]
+#[derive(Clone, Copy, PartialEq, Eq)]
 pub enum Command {
     /// `session NAME DB`
     Session { name: Name, database: u32 },

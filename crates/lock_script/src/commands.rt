@@ -5,7 +5,7 @@ ghost use Rattle.lock_script.specs.Defects.{commands, look_commands, words_behin
 ghost use Rattle.lock_script.specs.Rows.{kinds_in, looks_in};
 
 /// What a word after a command has to be.
-#[derive(Clone, Copy, Debug, PartialEq, Eq)]
+#[derive(Clone, Copy)]
 pub enum WordKind {
     /// A name that no open session has.
     FreeName,
@@ -30,7 +30,7 @@ pub enum WordKind {
 }
 
 /// A command of the language of scripts.
-#[derive(Clone, Copy, Debug)]
+#[derive(Clone, Copy)]
 pub struct CommandRow {
     /// The word with which the command's lines begin.
     pub verb: &'static str,

@@ -180,7 +180,7 @@ pub struct Caller {
 }
 
 /// An open session, which may wait: its name, and its place.
-#[derive(Clone, Copy, Debug, PartialEq, Eq)]
+#[derive(Clone, Copy, PartialEq, Eq)]
 pub struct Opened {
     pub name: Name,
     pub place: Place,

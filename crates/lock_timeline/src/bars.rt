@@ -9,7 +9,7 @@ const LETTERS_OF_A_STEP: usize = 6;
 
 /// A bar of the timeline: a session's lock, from the step in which the session asked for it to the step in which the
 /// lock or its wait ended.
-#[derive(Debug, Drop)]
+#[derive(Drop)]
 pub struct Bar {
     /// The number of the lane of the bar's session.
     pub lane: u32,
@@ -89,7 +89,7 @@ impl Span {
 }
 
 /// How another bar is in the way of a bar whose session waits.
-#[derive(Clone, Copy, Debug, PartialEq, Eq)]
+#[derive(Clone, Copy)]
 pub enum Way {
     /// The session of the other bar holds a conflicting mode.
     Holds,
@@ -99,7 +99,7 @@ pub enum Way {
 }
 
 /// An arrow from a bar whose session waits to a bar that was in the session's way when the wait began.
-#[derive(Clone, Copy, Debug, PartialEq, Eq)]
+#[derive(Clone, Copy)]
 pub struct Arrow {
     /// The number of the bar whose session waits.
     pub from: u32,

@@ -15,7 +15,7 @@ use std::alloc::{AllocError, Global};
 pub const MOST_STEPS: usize = 2000;
 
 /// How often an owner has a lock. The owner is the session itself, or its transaction at one level.
-#[derive(Clone, Copy, Debug, PartialEq, Eq)]
+#[derive(Clone, Copy)]
 struct Claim {
     lane: u32,
     /// The number of the bar of the claimed lock.

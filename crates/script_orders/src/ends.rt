@@ -111,7 +111,7 @@ pub struct Endings {
 }
 
 /// Which orders of a script were run.
-#[derive(Clone, Copy, Debug, PartialEq, Eq)]
+#[derive(Clone, Copy)]
 pub enum Extent {
     /// All orders, but for those that differ only in neighbouring lines that have nothing to do with one another.
     All,

@@ -4,7 +4,7 @@ use lock_script::{Defect, Fault, Name};
 use std::alloc::AllocError;
 
 /// A line of a script that is bad.
-#[derive(Debug, Drop)]
+#[derive(Drop)]
 pub struct BadLine {
     /// The line's number in the script, from 1.
     pub number: u32,
@@ -16,7 +16,7 @@ pub struct BadLine {
 }
 
 /// A line that opens a session, which is refused since all that may be opened were.
-#[derive(Clone, Copy, Debug, PartialEq, Eq)]
+#[derive(Clone, Copy)]
 pub struct RefusedSession {
     /// The line's number in the script, from 1.
     pub number: u32,
@@ -25,7 +25,7 @@ pub struct RefusedSession {
 }
 
 /// What ends the orders of a script early.
-#[derive(Debug, Drop)]
+#[derive(Drop)]
 pub enum OrdersFault {
     /// A line of the script is bad.
     Line(BadLine),

@@ -25,7 +25,7 @@ use std::io::{self, Write};
 const ORDERS_A_MANAGER: u32 = 128;
 
 /// What a player is to do next.
-#[derive(Clone, Copy, Debug, PartialEq, Eq)]
+#[derive(Clone, Copy)]
 pub enum Instruction<'a> {
     /// The player is to play this line.
     Line(&'a str),
@@ -36,7 +36,7 @@ pub enum Instruction<'a> {
 }
 
 /// Which orders are run now.
-#[derive(Clone, Copy, Debug, PartialEq, Eq)]
+#[derive(Clone, Copy)]
 enum Phase {
     /// The script's own order, in which the lines of a session that waits are put off until it goes on.
     Own,

@@ -6,7 +6,7 @@ use std::alloc::{AllocError, Global};
 use std::fmt::Display;
 
 /// What an answer says of the session that is answered.
-#[derive(Clone, Copy, Debug, PartialEq, Eq)]
+#[derive(Clone, Copy)]
 pub enum News {
     /// The session was opened, and is open.
     Opened,

@@ -15,7 +15,7 @@ use std::alloc::{AllocError, Global};
 const MOST_LINES: usize = 1000;
 
 /// Objects, by their strong lock counters: bit `i % 64` of word `i / 64` is counter `i`.
-#[derive(Clone, Copy, Debug, PartialEq, Eq)]
+#[derive(Clone, Copy)]
 struct Objects([u64; 16]);
 
 impl Objects {
@@ -51,7 +51,7 @@ impl Objects {
 }
 
 /// What a line has to do with.
-#[derive(Clone, Copy, Debug, PartialEq, Eq)]
+#[derive(Clone, Copy)]
 struct Reach {
     /// Whether the line has to do with every line.
     is_all: bool,

@@ -5,7 +5,7 @@ ghost use Rattle.script_orders.specs.Steps.{KeepsOwnOrder};
 use std::alloc::{AllocError, Global};
 
 /// A line of a session: the session's place among those of a script, and the line's place among the session's own.
-#[derive(Clone, Copy, Debug, PartialEq, Eq)]
+#[derive(Clone, Copy)]
 pub struct Step {
     pub session: usize,
     pub line: usize,

@@ -7,7 +7,7 @@ use std::fmt;
 const LARGEST_SHOWN: u64 = 1_000_000_000_000_000;
 
 /// A number, or where it is large its leading digits and how many zeros follow them.
-#[derive(Clone, Copy, Debug, PartialEq, Eq)]
+#[derive(Clone, Copy)]
 pub struct Total {
     leading: u64,
     zeros: u32,
