@@ -3,7 +3,7 @@ ghost use Rattle.std.specs.Prelude.{◌≡◌};
 ghost use Rattle.sql_locks.specs.Text.{is_in_class};
 
 /// A class of bytes, of which a run in a word of SQL is made.
-#[derive(Clone, Copy, Debug, PartialEq, Eq)]
+#[derive(Clone, Copy, PartialEq, Eq)]
 pub enum ByteClass {
     /// Spaces, tabs and ends of lines.
     Blank,

@@ -8,7 +8,7 @@ use std::alloc::{AllocError, Global};
 use std::collections::BTreeMap;
 
 /// The kind of a relation.
-#[derive(Clone, Copy, Debug, PartialEq, Eq)]
+#[derive(Clone, Copy, PartialEq, Eq)]
 pub enum RelationKind {
     Table,
     Index,
@@ -18,7 +18,7 @@ pub enum RelationKind {
 }
 
 /// A relation that a statement made, with its name and its kind.
-#[derive(Debug, Drop)]
+#[derive(Drop)]
 pub struct Relation {
     pub name: String,
     pub kind: RelationKind,
@@ -27,7 +27,7 @@ pub struct Relation {
 }
 
 /// The kind of a link from one relation to another.
-#[derive(Clone, Copy, Debug, PartialEq, Eq)]
+#[derive(Clone, Copy, PartialEq, Eq)]
 pub enum LinkKind {
     /// Links a parent to a child or a partition.
     Child,
@@ -50,7 +50,7 @@ pub enum LinkKind {
 }
 
 /// A link from one relation to another.
-#[derive(Clone, Copy, Debug, PartialEq, Eq)]
+#[derive(Clone, Copy, PartialEq, Eq)]
 pub struct Link {
     pub kind: LinkKind,
     pub from: usize,
@@ -74,7 +74,7 @@ impl Link {
 }
 
 /// A foreign key of a table.
-#[derive(Debug, Drop)]
+#[derive(Drop)]
 pub struct ForeignKey {
     pub name: String,
     /// The table that has the foreign key, and the table that the key refers to.
@@ -93,7 +93,7 @@ pub struct ForeignKey {
 
 /// The relations that statements made, by their numbers, with their names, links and foreign keys. A relation that was dropped has no name any more, and its
 /// number is given to no other.
-#[derive(Debug, Drop)]
+#[derive(Drop)]
 pub struct Catalog {
     pub relations: Vec<Relation>,
     pub names: BTreeMap<String, usize>,

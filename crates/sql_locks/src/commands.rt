@@ -8,7 +8,7 @@ use crate::forms::{Form, Hop, Part, Start};
 use modes_core::Mode;
 
 /// An SQL command, in capital letters, with the form whose row in the table says what it locks.
-#[derive(Clone, Copy, Debug)]
+#[derive(Clone, Copy)]
 pub struct SqlCommand {
     pub sql: &'static str,
     pub form: Form,

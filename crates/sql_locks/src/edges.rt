@@ -8,7 +8,7 @@ use crate::forms::Along;
 use std::alloc::{AllocError, Global};
 
 /// A step from one relation to another along a path.
-#[derive(Clone, Copy, Debug)]
+#[derive(Clone, Copy)]
 pub struct Edge {
     pub from: usize,
     pub to: usize,

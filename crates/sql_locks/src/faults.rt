@@ -47,7 +47,7 @@ pub enum Defect {
 }
 
 /// What ends the reading of a text of SQL statements early.
-#[derive(Clone, Copy, Debug, PartialEq, Eq, Drop)]
+#[derive(Clone, Copy, PartialEq, Eq, Drop)]
 pub enum SqlFault {
     /// A word of the text is wrong. Lines are counted from 1.
     BadWord {

@@ -3,7 +3,7 @@
 use modes_core::Mode;
 
 /// The relation of a statement at which a path begins.
-#[derive(Clone, Copy, Debug, PartialEq, Eq)]
+#[derive(Clone, Copy, PartialEq, Eq)]
 pub enum Start {
     /// The relation that the form is about.
     Target,
@@ -12,7 +12,7 @@ pub enum Start {
 }
 
 /// The links along which a path goes, as far as they lead.
-#[derive(Clone, Copy, Debug, PartialEq, Eq)]
+#[derive(Clone, Copy, PartialEq, Eq)]
 pub enum Along {
     /// Along no links: the path stays at the relation where it begins.
     Nothing,
@@ -27,7 +27,7 @@ pub enum Along {
 }
 
 /// The last step of a path.
-#[derive(Clone, Copy, Debug, PartialEq, Eq)]
+#[derive(Clone, Copy, PartialEq, Eq)]
 pub enum Hop {
     /// No last step: the path ends at the relations that it has reached.
     Stay,
@@ -48,7 +48,7 @@ pub enum Hop {
 }
 
 /// How relations are reached from those that a statement names.
-#[derive(Clone, Copy, Debug, PartialEq, Eq)]
+#[derive(Clone, Copy, PartialEq, Eq)]
 pub struct Path {
     pub start: Start,
     pub along: Along,
@@ -56,14 +56,14 @@ pub struct Path {
 }
 
 /// A mode on each relation at the end of a path.
-#[derive(Clone, Copy, Debug)]
+#[derive(Clone, Copy)]
 pub struct Part {
     pub path: Path,
     pub mode: Mode,
 }
 
 /// How long the work takes that is done under the locks.
-#[derive(Clone, Copy, Debug, PartialEq, Eq)]
+#[derive(Clone, Copy, PartialEq, Eq)]
 pub enum Work {
     /// The work takes as long for a large table as for a small one.
     Moment,
@@ -78,7 +78,7 @@ pub enum Work {
 }
 
 /// Until when locks are held.
-#[derive(Clone, Copy, Debug, PartialEq, Eq)]
+#[derive(Clone, Copy, PartialEq, Eq)]
 pub enum Until {
     /// The locks are held until the transaction's end.
     Commit,
@@ -87,7 +87,7 @@ pub enum Until {
 }
 
 /// The transactions for whose end a statement waits, beside its waits for locks.
-#[derive(Clone, Copy, Debug, PartialEq, Eq)]
+#[derive(Clone, Copy, PartialEq, Eq)]
 pub enum Awaits {
     Nobody,
     /// Each transaction that has written the table, and after these each transaction with an older snapshot.
@@ -99,7 +99,7 @@ pub enum Awaits {
 }
 
 /// A form of an SQL statement. The `sql` of its `FormRow` says which.
-#[derive(Clone, Copy, Debug, PartialEq, Eq)]
+#[derive(Clone, Copy, PartialEq, Eq)]
 pub enum Form {
     Select,
     SelectForUpdate,
@@ -231,7 +231,7 @@ pub enum Form {
 }
 
 /// What a form of a statement locks.
-#[derive(Clone, Copy, Debug)]
+#[derive(Clone, Copy)]
 pub struct FormRow {
     pub form: Form,
     /// The form as it is written in SQL.

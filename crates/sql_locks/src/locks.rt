@@ -10,7 +10,7 @@ use modes_core::Mode;
 use std::alloc::{AllocError, Global};
 
 /// A form in which a statement reaches a relation.
-#[derive(Clone, Copy, Debug)]
+#[derive(Clone, Copy)]
 pub struct Act {
     pub form: Form,
     /// The number of the relation that the form is about.
@@ -22,7 +22,7 @@ pub struct Act {
 }
 
 /// A lock on a relation.
-#[derive(Clone, Copy, Debug)]
+#[derive(Clone, Copy)]
 pub struct Lock {
     /// The number of the locked relation in the catalog.
     pub relation: usize,

@@ -10,7 +10,7 @@ use crate::word_lengths::{first_word, rows_length};
 use std::alloc::Global;
 
 /// The kind of a word of a text of SQL statements.
-#[derive(Clone, Copy, Debug, PartialEq, Eq)]
+#[derive(Clone, Copy, PartialEq, Eq)]
 pub enum WordKind {
     /// Spaces, tabs and ends of lines.
     Blank,
@@ -37,7 +37,7 @@ pub enum WordKind {
 }
 
 /// A word of a text of SQL statements.
-#[derive(Clone, Copy, Debug)]
+#[derive(Clone, Copy)]
 pub struct Word<'a> {
     pub kind: WordKind,
     /// The word as it is written.

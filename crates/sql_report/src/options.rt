@@ -5,7 +5,7 @@ use clap::{Arg, ArgAction, ArgMatches, Command, Error};
 use std::alloc::{AllocError, Global};
 
 /// What `--fail-on` has the program fail on.
-#[derive(Clone, Copy, Debug, PartialEq, Eq)]
+#[derive(Clone, Copy, PartialEq, Eq)]
 pub enum FailOn {
     Nothing,
     /// The program fails on a statement that keeps reads waiting.
@@ -15,7 +15,7 @@ pub enum FailOn {
 }
 
 /// What the words after `lock_scenario sql` ask for, where they ask for a report.
-#[derive(Debug, Drop)]
+#[derive(Drop)]
 pub struct SqlOptions {
     /// The file of the statements that were run before the migration, if one is named.
     pub schema: Option<String>,
@@ -25,7 +25,7 @@ pub struct SqlOptions {
 }
 
 /// What the words after `lock_scenario sql` come to.
-#[derive(Debug, Drop)]
+#[derive(Drop)]
 pub enum SqlTask {
     Report(SqlOptions),
     /// The words ask for this text.

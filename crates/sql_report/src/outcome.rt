@@ -21,7 +21,7 @@ pub struct Outcome {
 }
 
 /// How long a statement works, until when it holds its locks, and for whom it waits beside its waits for locks.
-#[derive(Clone, Copy, Debug)]
+#[derive(Clone, Copy)]
 pub struct Effort {
     pub work: Work,
     pub until: Until,

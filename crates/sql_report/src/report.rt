@@ -13,7 +13,7 @@ use sql_statements::{Control, SqlStatement, StatementReader, has_part, split_sta
 use std::alloc::{AllocError, Global};
 
 /// What a report says of one statement.
-#[derive(Debug, Drop)]
+#[derive(Drop)]
 pub struct Answer {
     /// The line on which the statement begins, from 1.
     pub line: usize,
@@ -26,7 +26,7 @@ pub struct Answer {
 }
 
 /// What a report says of a text of statements.
-#[derive(Debug, Drop)]
+#[derive(Drop)]
 pub struct Report {
     /// What is said of each statement, in the order of the statements.
     pub answers: Vec<Answer>,
@@ -38,7 +38,7 @@ pub struct Report {
 }
 
 /// Why a text of statements is refused.
-#[derive(Debug, Drop)]
+#[derive(Drop)]
 pub struct Refused {
     /// What is said of the refused text.
     pub text: String,

@@ -49,7 +49,7 @@ pub fn clash(mode: Mode, other: Mode) -> bool
 }
 
 /// How a session asks for the locks of a statement, or gives them back.
-#[derive(Clone, Copy, Debug, PartialEq, Eq)]
+#[derive(Clone, Copy, PartialEq, Eq)]
 pub enum Asking {
     /// The session's transaction takes each lock, and waits for it if need be.
     Wait,

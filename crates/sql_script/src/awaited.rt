@@ -11,7 +11,7 @@ use sql_locks::{Awaits, Lock, SqlFault};
 use std::alloc::{AllocError, Global};
 
 /// How a statement goes through transactions.
-#[derive(Clone, Copy, Debug, PartialEq, Eq)]
+#[derive(Clone, Copy, PartialEq, Eq)]
 pub enum Course {
     /// The statement runs within one transaction.
     Within,

@@ -33,7 +33,7 @@ pub enum ScriptDefect {
 }
 
 /// What ends the reading of a script's SQL early.
-#[derive(Clone, Copy, Debug, PartialEq, Eq, Drop)]
+#[derive(Clone, Copy, PartialEq, Eq, Drop)]
 pub enum ScriptFault {
     /// The SQL is bad, or its locks are not known, or there was no memory.
     Sql(SqlFault),

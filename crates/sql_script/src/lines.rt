@@ -10,7 +10,7 @@ use crate::verbs::{Verb, before_semicolon, cut_word, verb_of};
 use std::alloc::{AllocError, Global};
 
 /// What a line of a script is.
-#[derive(Debug, Drop)]
+#[derive(Drop)]
 pub enum Heard {
     /// The line says no SQL, and is played as it is.
     Plain,
@@ -21,7 +21,7 @@ pub enum Heard {
 }
 
 /// What a session plays for the statements of a line.
-#[derive(Debug, Drop)]
+#[derive(Drop)]
 pub struct Statements {
     pub session: String,
     /// What the session plays: a turn for each statement of the line, in order.
@@ -29,7 +29,7 @@ pub struct Statements {
 }
 
 /// Why the SQL of a line can't be played.
-#[derive(Debug, Drop)]
+#[derive(Drop)]
 pub enum Unplayed {
     /// The line is bad. The text says which word of which line is, with a line feed at its end.
     Told(String),
@@ -53,7 +53,7 @@ impl Unplayed {
 }
 
 /// A schema of a script, while its lines are read.
-#[derive(Debug, Drop)]
+#[derive(Drop)]
 pub struct Schema {
     /// The number of the line that begins the schema.
     line: u32,

@@ -7,7 +7,7 @@ use sql_statements::{Control, SqlWord};
 use std::alloc::{AllocError, Global};
 
 /// A session of a script, as its statements leave it.
-#[derive(Debug, Drop)]
+#[derive(Drop)]
 pub struct ScriptSession {
     pub name: String,
     pub database: u32,
@@ -31,7 +31,7 @@ pub struct ScriptSession {
 }
 
 /// A statement at which a session works until a line says that the work is done.
-#[derive(Debug, Drop)]
+#[derive(Drop)]
 pub struct Work {
     /// What the session plays at the end of the statement.
     pub left: Vec<Step>,
@@ -42,7 +42,7 @@ pub struct Work {
 }
 
 /// A savepoint of a transaction.
-#[derive(Debug, Drop)]
+#[derive(Drop)]
 pub struct Savepoint {
     pub name: String,
     /// How many locks on relations the transaction had before the savepoint.

@@ -8,7 +8,7 @@ use modes_core::{Mode, Owner, Tag};
 use std::alloc::{AllocError, Global};
 
 /// One thing that a session does for a statement.
-#[derive(Clone, Copy, Debug, PartialEq, Eq)]
+#[derive(Clone, Copy, PartialEq, Eq)]
 pub enum Step {
     /// The session takes a lock, and waits for it if need be.
     Lock { tag: Tag, mode: Mode, owner: Owner },

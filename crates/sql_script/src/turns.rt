@@ -12,7 +12,7 @@ use sql_statements::Control;
 use std::alloc::Global;
 
 /// What a session plays for one statement.
-#[derive(Debug, Drop)]
+#[derive(Drop)]
 pub struct Turn {
     /// The line of the text on which the statement begins, from 1.
     pub line: usize,
@@ -32,14 +32,14 @@ pub struct Turn {
 }
 
 /// A relation, or the lock of a transaction, under its name.
-#[derive(Debug, Drop)]
+#[derive(Drop)]
 pub struct Table {
     pub tag: Tag,
     pub name: String,
 }
 
 /// How a statement is played.
-#[derive(Clone, Copy, Debug, PartialEq, Eq)]
+#[derive(Clone, Copy, PartialEq, Eq)]
 pub struct Manner {
     /// What the statement does to the transaction.
     pub control: Control,

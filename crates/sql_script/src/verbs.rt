@@ -6,7 +6,7 @@ ghost use Rattle.sql_script.specs.Lines.{verb_of};
 ghost use Rattle.sql_script.specs.Words.{before_semicolon, behind_word, first_word, word_end};
 
 /// What the first word of a line asks for.
-#[derive(Clone, Copy, Debug, PartialEq, Eq)]
+#[derive(Clone, Copy, PartialEq, Eq)]
 pub enum Verb {
     /// A schema begins: the lines up to `end` make tables.
     Schema,

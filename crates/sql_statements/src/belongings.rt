@@ -3,7 +3,7 @@
 use std::alloc::{AllocError, Global};
 
 /// What belongs to a table under a name of its own, and is no relation.
-#[derive(Clone, Copy, Debug, PartialEq, Eq)]
+#[derive(Clone, Copy, PartialEq, Eq)]
 pub enum AttachedKind {
     /// A trigger for each row, which the partitions of a table have too.
     RowTrigger,
@@ -22,7 +22,7 @@ pub enum AttachedKind {
 }
 
 /// Something that belongs to a table, as a trigger or a policy.
-#[derive(Debug, Drop)]
+#[derive(Drop)]
 pub struct Attached {
     pub kind: AttachedKind,
     pub name: String,
@@ -31,7 +31,7 @@ pub struct Attached {
 }
 
 /// An index, and what it is made of.
-#[derive(Debug, Drop)]
+#[derive(Drop)]
 pub struct IndexOf {
     /// The numbers of the index and of its table.
     pub index: usize,
@@ -46,7 +46,7 @@ pub struct IndexOf {
 }
 
 /// A view, and the names that its query has.
-#[derive(Debug, Drop)]
+#[derive(Drop)]
 pub struct ViewNames {
     pub view: usize,
     pub names: Vec<String>,

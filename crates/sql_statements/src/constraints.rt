@@ -6,7 +6,7 @@ use crate::reader::{Change, StatementReader};
 use sql_locks::{ForeignKey, Form, LinkKind, RelationKind, SqlFault};
 
 /// The kind of a constraint: what the constraint demands.
-#[derive(Clone, Copy, Debug, PartialEq, Eq)]
+#[derive(Clone, Copy, PartialEq, Eq)]
 pub enum ConstraintKind {
     /// A primary key, a unique key or an exclusion, which has an index.
     Key,
@@ -18,7 +18,7 @@ pub enum ConstraintKind {
 }
 
 /// A constraint of a table, as a statement says it.
-#[derive(Debug, Drop)]
+#[derive(Drop)]
 pub struct Constraint {
     pub kind: ConstraintKind,
     /// The name of the constraint, where the statement says one.

@@ -3,7 +3,7 @@
 use sql_locks::{Defect, SqlFault, WordKind};
 
 /// A word of a statement.
-#[derive(Debug, Drop)]
+#[derive(Drop)]
 pub struct SqlWord {
     pub kind: WordKind,
     /// The word as it is written.
@@ -45,14 +45,14 @@ impl SqlWord {
 }
 
 /// The place of a name among the words of a statement: from the word at `begin` on, to before the word at `end`.
-#[derive(Clone, Copy, Debug, PartialEq, Eq)]
+#[derive(Clone, Copy, PartialEq, Eq)]
 pub struct NamePlace {
     pub begin: usize,
     pub end: usize,
 }
 
 /// A place among the words of a statement, of which blanks and comments are left out.
-#[derive(Debug, Drop)]
+#[derive(Drop)]
 pub struct Cursor {
     pub words: Vec<SqlWord>,
     pub place: usize,

@@ -7,7 +7,7 @@ use sql_locks::{Form, LinkKind, RelationKind, SqlFault};
 use std::alloc::AllocError;
 
 /// What an index that is to be made is made of.
-#[derive(Debug, Drop)]
+#[derive(Drop)]
 pub struct IndexWords {
     pub columns: Vec<String>,
     /// All names that the definition of the index has.

@@ -9,7 +9,7 @@ use sql_locks::{Defect, Form, LinkKind, RelationKind, SqlFault};
 use std::alloc::AllocError;
 
 /// A relation that a query reads, with the place of the name by which the query knows the relation.
-#[derive(Clone, Copy, Debug)]
+#[derive(Clone, Copy)]
 struct Reading {
     form: Form,
     target: usize,

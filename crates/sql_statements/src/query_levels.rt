@@ -1,7 +1,7 @@
 //! What stands in the parentheses of a query, and the key words that end its lists.
 
 /// What is known of one level of a query: of what is in one pair of parentheses, or outside all.
-#[derive(Clone, Copy, Debug)]
+#[derive(Clone, Copy)]
 pub struct Level {
     /// Whether no word was read that says what the level is.
     pub is_fresh: bool,

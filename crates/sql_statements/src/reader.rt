@@ -7,7 +7,7 @@ use sql_locks::{Act, Catalog, Defect, ForeignKey, Form, LinkKind, RelationKind, 
 use std::alloc::{AllocError, Global};
 
 /// What a statement changes in the catalog once its locks are held.
-#[derive(Debug, Drop)]
+#[derive(Drop)]
 pub enum Change {
     /// The relation of this number is dropped.
     Drop(usize),
@@ -30,7 +30,7 @@ pub enum Change {
 }
 
 /// What a statement does to the transaction.
-#[derive(Clone, Copy, Debug, PartialEq, Eq)]
+#[derive(Clone, Copy, PartialEq, Eq)]
 pub enum Control {
     /// The statement leaves the transaction as it is.
     Stay,
@@ -43,7 +43,7 @@ pub enum Control {
 
 /// An advisory lock that a statement takes or gives back: the places, among the words of the statement, of the function and of the keys. Of a function that
 /// gives back all advisory locks `first` is the place after the opening parenthesis.
-#[derive(Clone, Copy, Debug)]
+#[derive(Clone, Copy)]
 pub struct Advisory {
     pub function: usize,
     pub first: usize,

@@ -10,7 +10,7 @@ use std::alloc::{AllocError, Global};
 use std::str;
 
 /// A statement of a text: its words without blanks and comments, and where it is in the text.
-#[derive(Debug, Drop)]
+#[derive(Drop)]
 pub struct SqlStatement {
     pub words: Vec<SqlWord>,
     /// The line on which the statement begins, from 1.

@@ -4,7 +4,7 @@ use modes_core::Mode;
 use sql_locks::Form;
 
 /// The forms of a row of the tables of SQL statements in docs/POSTGRESQL.md.
-#[derive(Clone, Copy, Debug)]
+#[derive(Clone, Copy)]
 pub struct PageForms {
     /// The row's statements, as docs/POSTGRESQL.md has them.
     pub sql: &'static str,
