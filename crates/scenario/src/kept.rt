@@ -7,7 +7,6 @@ ghost use Rattle.scenario.specs.Sizes.{IsForManager};
 
 use crate::desks::ScriptDesk;
 use crate::listener::Listener;
-use crate::opening::reopen;
 use crate::run::Scene;
 use crate::runs::{Keeping, Manner, act_out};
 use crate::sql_runs::Spoken;
@@ -26,13 +25,16 @@ pub struct Turns {
     pub keep: bool,
     /// Whether the numbers of closed sessions are given out again.
     pub reuse: bool,
+    /// Whether the script speaks SQL.
+    pub sql: bool,
 }
 
 /// Runs the script that `reader` gives against a lock manager of its own, of the size `config`, and tells `listener` what each line is answered.
-/// Where `turns` keeps lines, one whose session waits is kept, and run once the session goes on, after the lines of the session that were kept
-/// before. A script whose first command is `schema` speaks SQL, and the lines that the statements of its `do` lines come to are kept in any case.
-/// Where lines are kept, `listener` hears at the end who is left waiting, and how many lines were not reached. Where `turns` reuses numbers, a new
-/// session has the lowest one that no open session has. The run ends with the input or the first fault.
+/// Where `turns` keeps lines, one whose session waits is kept, and run once the session goes on, after the lines of the session
+/// that were kept before. Where `turns` says that the script speaks SQL, the lines that the statements of its `do` lines come to
+/// are kept in any case. Where lines are kept, `listener` hears at the end who is left waiting, and how many lines were not
+/// reached. Where `turns` reuses numbers, a new session has the lowest one that no open session has. The run ends with the input
+/// or the first fault.
 pub fn run_in_turn<H: AllocGlobal + Wait, R: Read + Drop, L: Listener + Drop>(
     rt: &H,
     reader: R,
@@ -42,12 +44,10 @@ pub fn run_in_turn<H: AllocGlobal + Wait, R: Read + Drop, L: Listener + Drop>(
 ) -> Result<(), Fault>
     requires { IsForManager config }
 {
-    let alloc = rt.alloc();
-    let (reader, speaks) = reopen(alloc, reader)?;
-    let manner = if speaks || turns.keep {
+    let manner = if turns.sql || turns.keep {
         Manner::Keeping(Keeping {
-            alloc,
-            speaks,
+            alloc: rt.alloc(),
+            speaks: turns.sql,
             keeps: turns.keep,
         })
     } else {

@@ -7,7 +7,6 @@ mod desks;
 mod json;
 mod kept;
 mod listener;
-mod opening;
 mod output;
 mod picture;
 mod run;

@@ -158,10 +158,11 @@ fn orders_command<'a>(alloc: Global) -> Result<Command<'a>, AllocError> {
         .arg(ends)
 }
 
-/// The command line: `run [--sessions N] [--max-local M] [--slot-groups G] [--echo] [--json] [--graph LANGUAGE] [--keep] [--reuse] [--summary]
-/// [--fail-on WHAT]`, `orders [--sessions N] [--max-local M] [--slot-groups G] [--limit K] [--seed S] [--ends]`, `sql [--schema FILE] [--fail-on
-/// KIND] [--single-transaction]`, `shell [--sessions N] [--max-local M] [--slot-groups G] [--reuse]`, `modes`, `hammer --sessions N --rounds K`, or
-/// `--man`. The texts of its help are those of `helps`.
+/// The command line: `run [--sessions N] [--max-local M] [--slot-groups G] [--echo] [--json] [--graph LANGUAGE] [--sql] [--keep]
+/// [--reuse] [--summary] [--fail-on WHAT]`, `orders [--sessions N] [--max-local M] [--slot-groups G] [--limit K] [--seed S]
+/// [--ends]`, `sql [--schema FILE] [--fail-on KIND] [--single-transaction]`, `shell [--sessions N] [--max-local M]
+/// [--slot-groups G] [--reuse]`, `modes`, `hammer --sessions N --rounds K`, or `--man`. The texts of its help are those of
+/// `helps`.
 fn command<'a>(alloc: Global, helps: &'a Helps) -> Result<Command<'a>, AllocError> {
     let run = Command::new(alloc, "run")
         .about("Run the script on standard input")

@@ -106,7 +106,7 @@ pub fn push_script_lines(text: &mut String) -> Result<(), AllocError> {
 
 /// Adds to `text` the forms of the lines that a script which speaks SQL has beside the lines of any script.
 pub fn push_sql_lines(text: &mut String) -> Result<(), AllocError> {
-    text.push_str("A script whose first command is schema has these lines too:\n")?;
+    text.push_str("With --sql a script has these lines too:\n")?;
     for line in &SQL_LINES {
         push_line(text, line)?;
     }

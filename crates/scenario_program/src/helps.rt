@@ -47,7 +47,7 @@ const RUN_EXAMPLES: &str = "Examples:
   lock_scenario run --json --graph dot < FILE |
     jq -r 'select(.graph).text' | dot -Tsvg
   lock_scenario run --keep --summary --fail-on refused,stuck < FILE
-  lock_scenario run --summary < scenarios/sql/alter_behind_a_long_read.scn";
+  lock_scenario run --sql --summary < scenarios/sql/alter_behind_a_long_read.scn";
 
 /// What `modes --help` shows beside its options.
 pub const MODES_HELP: &str =

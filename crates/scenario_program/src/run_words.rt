@@ -37,6 +37,10 @@ pub fn reuse_argument<'a>(alloc: Global) -> Arg<'a> {
 
 /// The subcommand `run` with the options of how its script is run, what is listed at its end, and what it fails for.
 pub fn with_manners<'a>(alloc: Global, run: Command<'a>) -> Result<Command<'a>, AllocError> {
+    let sql = Arg::new(alloc, "sql")
+        .long("sql")
+        .help("Play the SQL that a script says by schema, do, work and done")
+        .action(ArgAction::SetTrue);
     let keep = Arg::new(alloc, "keep")
         .long("keep")
         .help("Keep a line whose session waits, and run it once that goes on")
@@ -51,7 +55,8 @@ pub fn with_manners<'a>(alloc: Global, run: Command<'a>) -> Result<Command<'a>, 
         .long("summary")
         .help("Tell at the end who waited, for what and behind whom")
         .action(ArgAction::SetTrue);
-    run.arg(keep)?
+    run.arg(sql)?
+        .arg(keep)?
         .arg(reuse_argument(alloc))?
         .arg(summary)?
         .arg(fail_on)
@@ -64,6 +69,7 @@ pub fn run_options_of(words: &ArgMatches) -> RunOptions {
         turns: Turns {
             keep: words.get_flag("keep"),
             reuse: words.get_flag(REUSE),
+            sql: words.get_flag("sql"),
         },
         summary: words.get_flag("summary"),
         fail_on: FailOn::named(words.get_strs("fail-on").unwrap_or(&[])),

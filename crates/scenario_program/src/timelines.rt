@@ -32,6 +32,7 @@ pub fn draw_script<H: AllocGlobal + Wait, R: Read + Drop, W: Write + Drop>(
         turns: Turns {
             keep: false,
             reuse: false,
+            sql: false,
         },
         summary: false,
         fail_on: FailOn::named(&[]),

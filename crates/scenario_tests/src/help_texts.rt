@@ -42,6 +42,7 @@ Options:
       --echo              Print each line of the script before its answers
       --json              Print an object of JSON for each line, instead of its text
       --graph <LANGUAGE>  Draw who waits for whom, behind each list or at the end, or the whole script [possible values: mermaid, dot, timeline, gantt]
+      --sql               Play the SQL that a script says by schema, do, work and done
       --keep              Keep a line whose session waits, and run it once that goes on
       --reuse             Give the numbers of closed sessions to new ones, the lowest first
       --summary           Tell at the end who waited, for what and behind whom
@@ -86,7 +87,7 @@ MODE is AccessShareLock, RowShareLock, RowExclusiveLock,
 A lock is the transaction's, and with the word session at the end of its line
   the session's.
 
-A script whose first command is schema has these lines too:
+With --sql a script has these lines too:
   schema                          SQL statements follow, which make tables
   end                             the schema ends
   do NAME SQL;                    lock what SQL statements lock, in their order
@@ -102,7 +103,7 @@ Examples:
   lock_scenario run --json --graph dot < FILE |
     jq -r 'select(.graph).text' | dot -Tsvg
   lock_scenario run --keep --summary --fail-on refused,stuck < FILE
-  lock_scenario run --summary < scenarios/sql/alter_behind_a_long_read.scn
+  lock_scenario run --sql --summary < scenarios/sql/alter_behind_a_long_read.scn
 ";
 
 /// The text of `modes --help`.

@@ -36,7 +36,7 @@ pub fn words_of(alloc: Global, line: &str) -> Result<Vec<String>, Fail> {
 }
 
 /// Words, and how many sessions and local entries or rounds they ask for, where they aren't refused.
-static WORDS: [(&str, Option<(u32, u32)>); 54] = [
+static WORDS: [(&str, Option<(u32, u32)>); 57] = [
     ("lock_scenario run", Some((8, 1024))),
     ("lock_scenario run --sessions 1", Some((1, 1024))),
     ("lock_scenario run --sessions=64", Some((64, 1024))),
@@ -80,6 +80,9 @@ static WORDS: [(&str, Option<(u32, u32)>); 54] = [
     ("lock_scenario run --slot-groups x", None),
     ("lock_scenario run more", None),
     ("lock_scenario run --reuse --sessions 2", Some((2, 1024))),
+    ("lock_scenario run --sql --sessions 2", Some((2, 1024))),
+    ("lock_scenario orders --sql", None),
+    ("lock_scenario shell --sql", None),
     ("lock_scenario run --reuse=yes", None),
     ("lock_scenario orders --reuse", None),
     ("lock_scenario --man", Some((0, 0))),

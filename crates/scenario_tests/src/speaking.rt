@@ -4,7 +4,7 @@ use crate::speaking_stories::STORIES;
 use std::test::Fail;
 
 /// Scripts, the status of the program on each, and what it writes to its output and to its errors.
-static SPOKEN: [(&str, u8, &str, &str); 14] = [
+static SPOKEN: [(&str, u8, &str, &str); 13] = [
     // What is kept goes on with its session, line by line, and what is left is told.
     (
         "schema\n  CREATE TABLE a (id int PRIMARY KEY);\n  CREATE TABLE b (id int REFERENCES a);\nend\nsession one 5\nsession two 5\n\
@@ -96,19 +96,26 @@ static SPOKEN: [(&str, u8, &str, &str); 14] = [
         "a: session 0 database 5\n",
         "line 4: a command of psql, not of SQL: \\dt\n",
     ),
-    // A script whose first command is no schema doesn't speak SQL.
+];
+
+/// Scripts that say SQL without the word `--sql`, what is written to the output and to the errors.
+static UNSPOKEN: [(&str, &str, &str); 2] = [
     (
         "session a 5\ndo a LOCK t;\n",
-        3,
         "a: session 0 database 5\n",
         "line 2: unknown command \"do\"; lock_scenario run --help lists the commands\n",
+    ),
+    (
+        "schema\nCREATE TABLE t (id int);\nend\n",
+        "",
+        "line 1: unknown command \"schema\"; lock_scenario run --help lists the commands\n",
     ),
 ];
 
 #[test]
 fn scripts_in_sql_print_what_the_rows_say(rt: HostRuntime) -> Result<(), Fail> {
     for (script, status, printed, said) in &SPOKEN {
-        let words = words_of(rt.alloc(), "lock_scenario run")?;
+        let words = words_of(rt.alloc(), "lock_scenario run --sql")?;
         expect_program(
             &rt,
             Ok(words),
@@ -120,9 +127,18 @@ fn scripts_in_sql_print_what_the_rows_say(rt: HostRuntime) -> Result<(), Fail> {
 }
 
 #[test]
+fn no_line_speaks_sql_without_the_word(rt: HostRuntime) -> Result<(), Fail> {
+    for (script, printed, said) in &UNSPOKEN {
+        let words = words_of(rt.alloc(), "lock_scenario run")?;
+        expect_program(&rt, Ok(words), false, (*script, false, 3, *printed, *said));
+    }
+    Ok(())
+}
+
+#[test]
 fn stories_in_sql_print_what_their_files_say(rt: HostRuntime) -> Result<(), Fail> {
     for (script, printed) in &STORIES {
-        let words = words_of(rt.alloc(), "lock_scenario run")?;
+        let words = words_of(rt.alloc(), "lock_scenario run --sql")?;
         expect_program(&rt, Ok(words), false, (*script, false, 0, *printed, ""));
     }
     Ok(())

@@ -117,8 +117,8 @@ fn tells_who_is_left_once_where_a_script_speaks_sql(rt: HostRuntime) -> Result<(
         "b: waits\nb waits from line 7 for AccessExclusiveLock on t: a holds AccessExclusiveLock\n\
         left waiting: b; not reached: 1 line\n";
     for line in [
-        "lock_scenario run --summary",
-        "lock_scenario run --keep --summary",
+        "lock_scenario run --sql --summary",
+        "lock_scenario run --sql --keep --summary",
     ] {
         let told = printed(&rt, line, SPOKEN)?;
         assert!(rt; told.as_str().ends_with(end), "{told}");
