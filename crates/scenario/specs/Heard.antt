@@ -1,4 +1,4 @@
-use Rattle.std.specs.Prelude.{◌≡◌, ℕ, ◌+◌, ◌-◌, ◌^◌, min, List, [], ◌∷◌, ◌++◌, map, vec_len, ⊤}
+use Rattle.std.specs.Prelude.{◌≡◌, ◌⊎◌, ℕ, ◌+◌, ◌-◌, ◌^◌, min, List, [], ◌∷◌, ◌++◌, map, vec_len, ⊤}
 use Rattle.arrayvec.specs.declared.array_string.ArrayString.{ArrayString}
 use Rattle.lock_manager.specs.declared.blocked.Blocked.{Blocked}
 use Rattle.lock_script.specs.declared.faults.Fault.{Fault}
@@ -27,6 +27,16 @@ pub data Heard : Type 0 where
   Helped : List ℕ → Heard
   -- the end of what answers a line
   Done : Heard
+  -- a line of the script that is kept, with its number and its text
+  Kept : ℕ → List ℕ → Heard
+  -- the end of a script that has no bad line
+  Ended : Heard
+  -- the sessions of these names are left waiting at the end, and so many lines were not reached
+  Left : List (ArrayString 16) → ℕ → Heard
+
+-- What is heard at the end of a script that has no bad line: a picture, where one is wanted, and that it has ended.
+abbrev pub IsEnd : List Heard → Type 0
+IsEnd heard = (heard ≡ Ended ∷ []) ⊎ (heard ≡ Drawn ∷ Ended ∷ [])
 
 -- Why a listener doesn't hear something: it can't be written, or there is no memory for it.
 abbrev pub IsUnheard : Fault → Type 0

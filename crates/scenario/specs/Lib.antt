@@ -16,4 +16,5 @@ pub mod InTurn
 pub mod Printed
 pub mod Spoken
 pub mod Written
+pub mod Acts
 pub mod Summaries

@@ -1,8 +1,8 @@
-use Rattle.std.specs.Prelude.{◌≡◌, ℕ, List, [], ◌∷◌, ◌++◌, Bool, if◌then◌else◌, Option, Some, None, IfSome, codes, option_map}
+use Rattle.std.specs.Prelude.{◌≡◌, ℕ, ⊤, List, [], ◌∷◌, ◌++◌, Bool, true, false, if◌then◌else◌, Option, Some, None, IfSome, codes, option_map}
 use Rattle.std.specs.Io.KnownBytes.{Appends}
 use Rattle.serde_json.specs.Data.{Data}
 use Rattle.serde_json.specs.Written.{compact_text}
-use Rattle.scenario.specs.Heard.{Heard, Line, Told, Listed, Behind, Drawn, Helped, Done}
+use Rattle.scenario.specs.Heard.{Heard, Line, Told, Listed, Behind, Drawn, Helped, Done, Kept, Ended, Left}
 use Rattle.scenario.specs.Json.{line_data, row_data, said_data}
 use Rattle.scenario.specs.Texts.{row_text, said_text}
 use Rattle.scenario.specs.declared.output.Output.{Output}
@@ -24,8 +24,15 @@ text_line text = text ++ 10 ∷ []
 abbrev pub data_line : Data → List ℕ
 data_line shown = compact_text shown ++ 10 ∷ []
 
+-- the form of a run that is to print JSON, or text
+abbrev pub IsFormOf : Bool → Form → Type 0
+IsFormOf true Text = ⊥
+IsFormOf true (Json alloc) = ⊤
+IsFormOf false Text = ⊤
+IsFormOf false (Json alloc) = ⊥
+
 -- The text of what is heard, in this form, with the lines of the script or without, where this line is answered. Of a
--- picture nothing is said, and in JSON of a few rows.
+-- picture nothing is said, nor of what is left at the end, and in JSON of a few rows.
 abbrev pub text_heard : Form → Bool → ℕ → Heard → Option (List ℕ)
 text_heard Text is_echoing line (Line number text) = Some (if is_echoing then text_line (codes "> " ++ text) else [])
 text_heard (Json alloc) is_echoing line (Line number text) = Some (if is_echoing then data_line (line_data number text) else [])
@@ -37,6 +44,9 @@ text_heard form is_echoing line (Behind names told) = Some []
 text_heard form is_echoing line Drawn = None
 text_heard form is_echoing line (Helped text) = Some text
 text_heard form is_echoing line Done = Some []
+text_heard form is_echoing line (Kept number text) = Some []
+text_heard form is_echoing line Ended = Some []
+text_heard form is_echoing line (Left waiting lines) = None
 
 -- An output hears this: its text is written, where it is known.
 pub record Prints {W : Type 0} (contents : W → Option (List ℕ)) (old : Output W) (heard : Heard) (new : Output W) : Type 0 where

@@ -12,7 +12,7 @@ use Rattle.lock_script.specs.declared.faults.Defect.{Defect}
 use Rattle.lock_script.specs.declared.faults.Fault.{Fault}
 use Rattle.lock_script.specs.declared.faults.Fault.TheVariants.{BadLine, ReadFailed, WriteFailed, NoMemory, GateHeld}
 use Rattle.scenario.specs.Answers.{Cast}
-use Rattle.scenario.specs.Heard.{Heard, Hears, HearsAll, Line}
+use Rattle.scenario.specs.Heard.{Heard, Hears, HearsAll, IsEnd, Line}
 use Rattle.scenario.specs.Played.{Plays}
 
 -- What is heard of a script: its lines one by one, in their order, and behind each what it is answered. A bad line ends it.
@@ -47,7 +47,7 @@ EndsBadly lines left cast line what heard =
 
 -- Why a script ends after this number of lines, with this left of it, and what is heard after them.
 abbrev pub EndsSo : {B : Type 0} → ℕ → Option (List ℕ) → Cast B → Result (Unit {0}) Fault → List Heard → Type 0
-EndsSo lines left cast (Ok ended) heard = IfSome left (λ unread. reading_of lines unread ≡ Ok None) × (heard ≡ [])
+EndsSo lines left cast (Ok ended) heard = IfSome left (λ unread. reading_of lines unread ≡ Ok None) × IsEnd heard
 EndsSo lines left cast (Err (BadLine line what)) heard = EndsBadly lines left cast line what heard
 EndsSo lines left cast (Err ReadFailed) heard = heard ≡ []
 EndsSo lines left cast (Err WriteFailed) heard = ⊤

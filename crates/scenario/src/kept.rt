@@ -1,60 +1,21 @@
 //! Runs in which a line whose session waits is kept until that goes on.
-ghost use Rattle.std.specs.Prelude.{◌≡◌, [], OnOk};
+ghost use Rattle.std.specs.Prelude.{◌≡◌, OnOk};
 ghost use Rattle.lock_manager.specs.Crews.{SeatsAre};
 ghost use Rattle.scenario.specs.InTurn.{IsKept, RunsKept, TakesIn};
 ghost use Rattle.scenario.specs.Scripts.{RunsLine};
-ghost use Rattle.scenario.specs.Sizes.{IsForManager};
 
 use crate::desks::ScriptDesk;
 use crate::listener::Listener;
 use crate::run::Scene;
-use crate::runs::{Keeping, Manner, act_out};
+use crate::runs::Keeping;
 use crate::sql_runs::Spoken;
-use lock_manager::{Config, OwnSession};
+use lock_manager::OwnSession;
 use lock_script::{ByName, Defect, Fault, KeptLine, KeptLines, LineReader, Name};
 use lock_table::PartTable;
 use shared_rule::Board;
 use std::alloc::{AllocError, Global};
 use std::io::Read;
 use std::sync::Wait;
-
-/// How the lines of a script are run in turn.
-#[derive(Clone, Copy, Debug, PartialEq, Eq)]
-pub struct Turns {
-    /// Whether a line whose session waits is kept, and run once the session goes on.
-    pub keep: bool,
-    /// Whether the numbers of closed sessions are given out again.
-    pub reuse: bool,
-    /// Whether the script speaks SQL.
-    pub sql: bool,
-}
-
-/// Runs the script that `reader` gives against a lock manager of its own, of the size `config`, and tells `listener` what each line is answered.
-/// Where `turns` keeps lines, one whose session waits is kept, and run once the session goes on, after the lines of the session
-/// that were kept before. Where `turns` says that the script speaks SQL, the lines that the statements of its `do` lines come to
-/// are kept in any case. Where lines are kept, `listener` hears at the end who is left waiting, and how many lines were not
-/// reached. Where `turns` reuses numbers, a new session has the lowest one that no open session has. The run ends with the input
-/// or the first fault.
-pub fn run_in_turn<H: AllocGlobal + Wait, R: Read + Drop, L: Listener + Drop>(
-    rt: &H,
-    reader: R,
-    listener: L,
-    config: Config,
-    turns: Turns,
-) -> Result<(), Fault>
-    requires { IsForManager config }
-{
-    let manner = if turns.sql || turns.keep {
-        Manner::Keeping(Keeping {
-            alloc: rt.alloc(),
-            speaks: turns.sql,
-            keeps: turns.keep,
-        })
-    } else {
-        Manner::Script
-    };
-    act_out(rt, reader, listener, config, manner, turns.reuse)
-}
 
 /// A line of a script.
 #[derive(Clone, Copy)]
@@ -66,28 +27,10 @@ pub(crate) struct ReadLine<'a> {
 }
 
 impl<T: PartTable, B: Board<T>, D: ScriptDesk<OwnSession<T, B>>, L: Listener> Scene<T, B, D, L> {
-    /// Plays the script that `reader` gives, whose lines are kept as `keeping` says, and then closes the sessions that are open.
-    pub(crate) fn play_keeping<H: Wait, R: Read + Drop>(
-        &mut self,
-        rt: &H,
-        reader: R,
-        keeping: Keeping,
-    ) -> Result<(), Fault>
-        requires seats { SeatsAre B.seat D.seat }
-        ensures manager { D.manager self.new.state.desk ≡ D.manager self.old.state.desk }
-        ensures none_waits { self.new.state.sessions.waiting ≡ [] }
-        ensures none_open { self.new.state.sessions.resting ≡ [] }
-        ensures none_live { D.live self.new.state.desk ≡ 0 }
-    {
-        let ended = self.run_keeping(rt, reader, keeping);
-        self.state.close_all(rt);
-        ended
-    }
-
     /// Runs the lines of `reader`, to the end of the script or to the first fault. Where `keeping` says so, a line is kept while its session waits or
     /// has earlier kept lines. After each line that is run, the kept lines are run whose sessions don't wait, in their order. The listener hears at
     /// the end what is left.
-    fn run_keeping<H: Wait, R: Read + Drop>(
+    pub(crate) fn run_keeping<H: Wait, R: Read + Drop>(
         &mut self,
         rt: &H,
         reader: R,

@@ -1,6 +1,6 @@
 //! Who hears the answers of a script, and how an answer is told row by row.
 ghost use Rattle.std.specs.Prelude.{◌≡◌, OnOk, IfErr, map, Err};
-ghost use Rattle.scenario.specs.Heard.{Behind, Done, Drawn, HearsAll, Helped, IsUnheard, Line, Listed, Told, told_of};
+ghost use Rattle.scenario.specs.Heard.{Behind, Done, Drawn, Ended, HearsAll, Helped, IsUnheard, Kept, Left, Line, Listed, Told, told_of};
 
 use crate::answers::{Answer, Row, Said};
 use crate::picture::Picture;
@@ -59,34 +59,28 @@ pub trait Listener {
         ensures heard { OnOk result (hears self.old Done self.new) }
         ensures unheard { IfErr result IsUnheard };
 
-    /// Hears of a line that was read, with its text `_text` and its number `_number`, and is kept until its session goes on. The line is answered
-    /// when it is run. Where `_more`, the next line is at hand.
-    fn keep_line(&mut self, _number: u32, _text: &str, _more: bool) -> Result<(), Fault>
-        ensures unheard { IfErr result IsUnheard }
-    {
-        Ok(())
-    }
+    /// Hears of a line that was read, with its text `text` and its number `number`, and is kept until its session goes on. The
+    /// line is answered when it is run. Where `more`, the next line is at hand.
+    fn keep_line(&mut self, number: u32, text: &str, more: bool) -> Result<(), Fault>
+        ensures heard { OnOk result (hears self.old (Kept number text.now) self.new) }
+        ensures unheard { IfErr result IsUnheard };
 
     /// What draws a picture of those who wait at the end of the script, if one is wanted.
     fn last_pen(&self) -> Option<Pen> {
         None
     }
 
-    /// Hears that the script has ended, and has no bad line. The sessions and objects are known by `_names`. Where `_tells_left`, `left` is called
-    /// next, with the sessions that are left waiting.
-    fn ended(&mut self, _names: &Names, _tells_left: bool) -> Result<(), Fault>
-        ensures unheard { IfErr result IsUnheard }
-    {
-        Ok(())
-    }
+    /// Hears that the script has ended, and has no bad line. The sessions and objects are known by `names`. Where `tells_left`,
+    /// `left` is called next, with the sessions that are left waiting.
+    fn ended(&mut self, names: &Names, tells_left: bool) -> Result<(), Fault>
+        ensures heard { OnOk result (hears self.old Ended self.new) }
+        ensures unheard { IfErr result IsUnheard };
 
-    /// Hears that the script has ended where lines are kept: the sessions of the names `_waiting` wait, and `_lines`
+    /// Hears that the script has ended where lines are kept: the sessions of the names `waiting` wait, and `lines`
     /// lines were kept and not reached.
-    fn left(&mut self, _waiting: &[Name], _lines: u64) -> Result<(), Fault>
-        ensures unheard { IfErr result IsUnheard }
-    {
-        Ok(())
-    }
+    fn left(&mut self, waiting: &[Name], lines: u64) -> Result<(), Fault>
+        ensures heard { OnOk result (hears self.old (Left waiting.now lines) self.new) }
+        ensures unheard { IfErr result IsUnheard };
 }
 
 /// Tells `listener` an `answer`, row by row. The sessions are known by `names`.

@@ -4,7 +4,7 @@ ghost use Rattle.std.specs.Io.KnownBytes.{Appends, Keeps};
 ghost use Rattle.serde_json.specs.View.{view};
 ghost use Rattle.serde_json.specs.Written.{has_float};
 ghost use Rattle.scenario.specs.Heard.{IsUnheard};
-ghost use Rattle.scenario.specs.Printed.{Prints, data_line};
+ghost use Rattle.scenario.specs.Printed.{IsFormOf, Prints, data_line};
 
 use crate::answers::{Row, Said};
 use crate::json::{self, Object};
@@ -45,7 +45,12 @@ fn written(outcome: io::Result<()>) -> Result<(), Fault>
 
 impl<W: Write + Drop> Output<W> {
     /// Output to `writer`, as text and the answers alone.
-    pub fn new(writer: W) -> Self {
+    pub fn new(writer: W) -> Self
+        ensures writer { result.writer ≡ writer }
+        ensures form { result.form ≡ Form.Text }
+        ensures is_echoing { result.is_echoing ≡ false }
+        ensures line { result.line ≡ 0 }
+    {
         Output {
             writer,
             form: Form::Text,
@@ -59,7 +64,12 @@ impl<W: Write + Drop> Output<W> {
     }
 
     /// Output to `writer` in the style `style`, with memory by `alloc`.
-    pub fn styled(alloc: Global, writer: W, style: Style) -> Self {
+    pub fn styled(alloc: Global, writer: W, style: Style) -> Self
+        ensures writer { result.writer ≡ writer }
+        ensures form { IsFormOf style.json result.form }
+        ensures is_echoing { result.is_echoing ≡ style.echo }
+        ensures line { result.line ≡ 0 }
+    {
         let form = if style.json {
             Form::Json(alloc)
         } else {
@@ -79,6 +89,13 @@ impl<W: Write + Drop> Output<W> {
             holds: false,
             has_listed: false,
         }
+    }
+
+    /// The writer, to which all that was heard was written.
+    pub fn into_writer(self) -> W
+        ensures { result ≡ self.writer }
+    {
+        self.writer
     }
 
     /// Writes `object` as a line of JSON, with memory by `alloc`.
@@ -246,6 +263,10 @@ impl<W: Write + Drop> Listener for Output<W> {
     fn keep_line(&mut self, _number: u32, _text: &str, more: bool) -> Result<(), Fault> {
         self.more = more;
         self.settle()
+    }
+
+    fn ended(&mut self, _names: &Names, _tells_left: bool) -> Result<(), Fault> {
+        Ok(())
     }
 
     fn left(&mut self, waiting: &[Name], lines: u64) -> Result<(), Fault> {

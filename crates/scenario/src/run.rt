@@ -1,23 +1,20 @@
 //! Scripts: a line is read, run and answered before the next one is read.
-ghost use Rattle.std.specs.Prelude.{◌≡◌, ◌≤◌, ◌<◌, [], true, length, Ok, IfOk, IfErr, IfSome, OnOk};
+ghost use Rattle.std.specs.Prelude.{◌≡◌, ◌≤◌, ◌<◌, true, length, Ok, IfOk, IfErr, IfSome, OnOk};
 ghost use Rattle.lock_manager.specs.Crews.{SeatsAre};
 ghost use Rattle.lock_script.specs.Command.{Addresses, NamesCounter, NamesFree};
 ghost use Rattle.lock_script.specs.Sessions.{IsThere, MayAct};
-ghost use Rattle.modes_core.specs.Sessions.{usual_sessions};
-ghost use Rattle.scenario.specs.Heard.{Hears, IsUnheard};
+ghost use Rattle.scenario.specs.Heard.{Hears, IsEnd, IsUnheard};
 ghost use Rattle.scenario.specs.Played.{DrawsPicture, Follows, IsPassHeard, IsPollHeard, Plays, Settles, TellsWait};
 ghost use Rattle.scenario.specs.Scripts.{IsBadLine, IsScriptHeard, PlaysLine};
 
 use crate::answers::{Answer, Said};
 use crate::desks::ScriptDesk;
 use crate::listener::{Listener, tell_answer};
-use crate::runs::Manner;
 use crate::sessions::ScriptState;
 use lock_manager::{OwnSession, TableRow};
 use lock_script::{Caller, Command, Fault, LineReader, Name, parse};
 use lock_table::PartTable;
 use shared_rule::Board;
-use std::alloc::{AllocError, Global};
 use std::io::Read;
 use std::sync::Wait;
 
@@ -28,77 +25,11 @@ pub struct Scene<T: PartTable, B: Board<T>, D: ScriptDesk<OwnSession<T, B>>, L: 
 }
 
 impl<T: PartTable, B: Board<T>, D: ScriptDesk<OwnSession<T, B>>, L: Listener> Scene<T, B, D, L> {
-    /// A scene at `desk`, at which no session was opened yet, before `listener`. Both are let go where there is no memory
-    /// for the list of sessions.
-    pub fn new(alloc: Global, desk: D, listener: L) -> Result<Self, AllocError>
-    where
-        D: Drop,
-        L: Drop,
-        requires few { (D.manager desk).limit ≤ usual_sessions }
-        requires none_issued { D.issued desk ≡ 0 }
-        requires none_live { D.live desk ≡ 0 }
-        ensures desk { IfOk result (λ scene. scene.state.desk ≡ desk) }
-        ensures none_waits { IfOk result (λ scene. scene.state.sessions.waiting ≡ []) }
-        ensures none_open { IfOk result (λ scene. scene.state.sessions.resting ≡ []) }
-    {
-        let state = ScriptState::new(alloc, desk)?;
-        Ok(Scene { state, listener })
-    }
-
-    /// Plays the script that `reader` gives: runs its lines one by one, to their end or to the first fault, and then
-    /// closes the sessions that are open.
-    pub fn play<H: Wait, R: Read + Drop>(&mut self, rt: &H, reader: R) -> Result<(), Fault>
-        requires seats { SeatsAre B.seat D.seat }
-        ensures played { IsScriptHeard B.seat B.view B.stack D.again D.database_of D.entries L.hears (R.remaining reader)
-            (record { sessions = self.old.state.sessions; names = self.old.state.names }) self.old.listener result self.new.listener }
-        ensures manager { D.manager self.new.state.desk ≡ D.manager self.old.state.desk }
-        ensures none_waits { self.new.state.sessions.waiting ≡ [] }
-        ensures none_open { self.new.state.sessions.resting ≡ [] }
-        ensures none_live { D.live self.new.state.desk ≡ 0 }
-    {
-        let ended = self.run_lines(rt, reader);
-        self.state.close_all(rt);
-        ended
-    }
-
-    /// Runs the lines of `reader` in this `manner`, and then closes the sessions that are open.
-    pub(crate) fn act_out<H: Wait, R: Read + Drop>(
-        &mut self,
-        rt: &H,
-        reader: R,
-        manner: Manner,
-    ) -> Result<(), Fault>
-        requires seats { SeatsAre B.seat D.seat }
-        ensures manager { D.manager self.new.state.desk ≡ D.manager self.old.state.desk }
-        ensures none_waits { self.new.state.sessions.waiting ≡ [] }
-        ensures none_open { self.new.state.sessions.resting ≡ [] }
-        ensures none_live { D.live self.new.state.desk ≡ 0 }
-    {
-        match manner {
-            Manner::Script => self.play_out(rt, reader),
-            Manner::Keeping(keeping) => self.play_keeping(rt, reader, keeping),
-        }
-    }
-
-    /// Plays the script that `reader` gives as `play` does, and tells the listener that the script has ended before the sessions are closed.
-    fn play_out<H: Wait, R: Read + Drop>(&mut self, rt: &H, reader: R) -> Result<(), Fault>
-        requires seats { SeatsAre B.seat D.seat }
-        ensures manager { D.manager self.new.state.desk ≡ D.manager self.old.state.desk }
-        ensures none_waits { self.new.state.sessions.waiting ≡ [] }
-        ensures none_open { self.new.state.sessions.resting ≡ [] }
-        ensures none_live { D.live self.new.state.desk ≡ 0 }
-    {
-        let ended = match self.run_lines(rt, reader) {
-            Ok(()) => self.tell_end(rt, false),
-            Err(fault) => Err(fault),
-        };
-        self.state.close_all(rt);
-        ended
-    }
-
     /// Draws who waits for whom at the end of the script, where the listener wants that, and tells the listener that the script has ended. Where
     /// `tells_left`, the listener hears next who is left waiting.
     pub(crate) fn tell_end<H: Wait>(&mut self, rt: &H, tells_left: bool) -> Result<(), Fault>
+        ensures heard { OnOk result (Hears L.hears self.old.listener self.new.listener IsEnd) }
+        ensures unheard { IfErr result IsUnheard }
         ensures manager { D.manager self.new.state.desk ≡ D.manager self.old.state.desk }
     {
         if let Some(pen) = self.listener.last_pen() {
@@ -112,8 +43,9 @@ impl<T: PartTable, B: Board<T>, D: ScriptDesk<OwnSession<T, B>>, L: Listener> Sc
         self.listener.ended(&state.names, tells_left)
     }
 
-    /// Runs the lines of `reader`, to the end of the script or to the first fault.
-    fn run_lines<H: Wait, R: Read + Drop>(&mut self, rt: &H, reader: R) -> Result<(), Fault>
+    /// Runs the lines of `reader`, to the end of the script or to the first fault, and tells the listener that the script has
+    /// ended where it has no bad line.
+    pub(crate) fn run_lines<H: Wait, R: Read + Drop>(&mut self, rt: &H, reader: R) -> Result<(), Fault>
         requires seats { SeatsAre B.seat D.seat }
         ensures played { IsScriptHeard B.seat B.view B.stack D.again D.database_of D.entries L.hears (R.remaining reader)
             (record { sessions = self.old.state.sessions; names = self.old.state.names }) self.old.listener result self.new.listener }
@@ -124,7 +56,7 @@ impl<T: PartTable, B: Board<T>, D: ScriptDesk<OwnSession<T, B>>, L: Listener> Sc
             let more = lines.has_line();
             self.run_line(rt, lines.number, line.as_str(), more)?;
         }
-        Ok(())
+        self.tell_end(rt, false)
     }
 
     /// Tells the listener `line`, which has this `number`, and runs its command if it has one. Where `more`, the next line

@@ -1,34 +1,120 @@
 //! Runs of whole scripts, each against a lock manager of its own.
-ghost use Rattle.std.specs.Prelude.{◌≡◌, ◌≤◌, [], IfOk};
-ghost use Rattle.lock_manager.specs.Crews.{SeatsAre};
-ghost use Rattle.modes_core.specs.Sessions.{usual_sessions};
-ghost use Rattle.scenario.specs.Numbers.{SeesSessions};
+ghost use Rattle.std.specs.Prelude.{◌≡◌, false};
+ghost use Rattle.scenario.specs.Acts.{UnlessUnheard, WritesScript, no_cast};
+ghost use Rattle.scenario.specs.Scripts.{IsScriptHeard};
 ghost use Rattle.scenario.specs.Sizes.{IsForManager};
 
-use crate::desks::{OnceDesk, ReusingDesk};
+use crate::desks::ScriptDesk;
+use crate::driver::{Act, drive};
 use crate::listener::Listener;
 use crate::output::Output;
 use crate::run::Scene;
-use crate::sessions::ScriptState;
 use crate::style::Style;
-use lock_manager::{Config, Desk, Manager, ManagerDesk, OwnSession, SessionPool};
-use lock_script::{Fault, Names, OpenSessions};
+use lock_manager::{Config, Desk, ManagerDesk, OwnSession, Part, Session};
+use lock_script::Fault;
 use lock_table::PartTable;
-use shared_rule::Board;
-use std::alloc::{AllocError, Global};
+use shared_rule::{Board, SeatBoard};
+use std::alloc::Global;
 use std::io::{Read, Write};
 use std::sync::Wait;
 
+/// Which lines are kept while their sessions wait.
+#[derive(Clone, Copy)]
+pub struct Keeping {
+    /// The memory for the kept lines.
+    pub alloc: Global,
+    /// Whether the script speaks SQL. Each line that its SQL comes to is kept while the session waits.
+    pub speaks: bool,
+    /// Whether the lines that say no SQL are kept while their sessions wait.
+    pub keeps: bool,
+}
+
+/// In which manner the lines of a script are run.
+#[derive(Clone, Copy)]
+pub enum Manner {
+    /// The lines are run one after the other, to the first fault.
+    Plain,
+    /// The lines are run one after the other, but lines whose sessions wait are kept.
+    Keeping(Keeping),
+}
+
+/// The run of a script.
+#[derive(Drop)]
+pub struct Script<R> {
+    pub reader: R,
+    pub manner: Manner,
+}
+
+impl<R: Read + Drop, L: Listener> Act<L> for Script<R> {
+    ghost use Rattle.scenario.specs.Acts.{IfPlain};
+    ghost use Rattle.scenario.specs.Scripts.{IsScriptHeard};
+
+    ghost acts = { λ B seat view stack again database_of entries script old before ended now. IfPlain script.manner
+        (IsScriptHeard seat view stack again database_of entries L.hears (R.remaining script.reader) old before ended now) };
+
+    fn act<T: PartTable, B: Board<T>, D: ScriptDesk<OwnSession<T, B>>, H: Wait>(
+        self,
+        rt: &H,
+        scene: &mut Scene<T, B, D, L>,
+    ) -> Result<(), Fault> {
+        let Script { reader, manner } = self;
+        match manner {
+            Manner::Plain => scene.run_lines(rt, reader),
+            Manner::Keeping(keeping) => scene.run_keeping(rt, reader, keeping),
+        }
+    }
+}
+
+/// How the lines of a script are run in turn.
+#[derive(Clone, Copy, Debug, PartialEq, Eq)]
+pub struct Turns {
+    /// Whether a line whose session waits is kept, and run once the session goes on.
+    pub keep: bool,
+    /// Whether the numbers of closed sessions are given out again.
+    pub reuse: bool,
+    /// Whether the script speaks SQL.
+    pub sql: bool,
+}
+
+impl Turns {
+    /// Each line is run as it comes, and each session number is given out once.
+    pub const PLAIN: Turns = Turns {
+        keep: false,
+        reuse: false,
+        sql: false,
+    };
+
+    /// In which manner the lines of a script are run, where kept lines take memory by `alloc`.
+    fn manner(self, alloc: Global) -> Manner
+        ensures { self.keep ≡ false → self.sql ≡ false → result ≡ Manner.Plain }
+    {
+        if self.sql || self.keep {
+            Manner::Keeping(Keeping {
+                alloc,
+                speaks: self.sql,
+                keeps: self.keep,
+            })
+        } else {
+            Manner::Plain
+        }
+    }
+}
+
 /// Runs the script that `reader` gives against a lock manager of its own, of the size `config`, and writes to `writer`
 /// what each line prints before the next line is run. The writer is flushed where the next line has to be read first.
-/// The run ends with the input, or with the first fault, and then the sessions that are open are closed in silence.
+/// The run ends with the input, or with the first fault, and then the sessions that are open are closed in silence. The
+/// writer comes back, with all that was written.
 pub fn run_script<H: AllocGlobal + Wait, R: Read + Drop, W: Write + Drop>(
     rt: &H,
     reader: R,
     writer: W,
     config: Config,
-) -> Result<(), Fault>
+) -> (W, Result<(), Fault>)
     requires { IsForManager config }
+    ensures written { let B = ⟦<SeatBoard<'static, Part> as Board<Part>>⟧ in
+        let D = ⟦<ManagerDesk<'static> as Desk<Session<'static>>>⟧ in
+        UnlessUnheard result.1 (WritesScript B.seat B.view B.stack false D.database_of D.entries (R.remaining reader) false false
+            (W.contents writer) result.1 (W.contents result.0)) }
 {
     run_styled_script(rt, reader, writer, config, Style::PLAIN)
 }
@@ -40,208 +126,37 @@ pub fn run_styled_script<H: AllocGlobal + Wait, R: Read + Drop, W: Write + Drop>
     writer: W,
     config: Config,
     style: Style,
-) -> Result<(), Fault>
+) -> (W, Result<(), Fault>)
     requires { IsForManager config }
+    ensures written { let B = ⟦<SeatBoard<'static, Part> as Board<Part>>⟧ in
+        let D = ⟦<ManagerDesk<'static> as Desk<Session<'static>>>⟧ in
+        UnlessUnheard result.1 (WritesScript B.seat B.view B.stack false D.database_of D.entries (R.remaining reader) style.json
+            style.echo (W.contents writer) result.1 (W.contents result.0)) }
 {
     let output = Output::styled(rt.alloc(), writer, style);
-    act_out(rt, reader, output, config, Manner::Script, false)
+    let (output, ended) = run_in_turn(rt, reader, output, config, Turns::PLAIN);
+    (output.into_writer(), ended)
 }
 
-/// Runs the script that `reader` gives against a lock manager of its own, of the size `config`, and tells `listener` what each line is answered
-/// before the next one is run. The run ends as that of `run_script` does.
-pub fn run_before<H: AllocGlobal + Wait, R: Read + Drop, L: Listener + Drop>(
+/// Runs the script that `reader` gives against a lock manager of its own, of the size `config`, and tells `listener` what each line
+/// is answered. Where `turns` keeps lines, one whose session waits is kept, and run once the session goes on, after the lines of
+/// the session that were kept before. Where `turns` says that the script speaks SQL, the lines that the statements of its `do`
+/// lines come to are kept in any case. Where lines are kept, `listener` hears at the end who is left waiting, and how many lines
+/// were not reached. Where `turns` reuses numbers, a new session has the lowest one that no open session has. The run ends with
+/// the input or the first fault, and the listener comes back.
+pub fn run_in_turn<H: AllocGlobal + Wait, R: Read + Drop, L: Listener>(
     rt: &H,
     reader: R,
     listener: L,
     config: Config,
-) -> Result<(), Fault>
+    turns: Turns,
+) -> (L, Result<(), Fault>)
     requires { IsForManager config }
+    ensures heard { let B = ⟦<SeatBoard<'static, Part> as Board<Part>>⟧ in
+        let D = ⟦<ManagerDesk<'static> as Desk<Session<'static>>>⟧ in turns.keep ≡ false → turns.sql ≡ false →
+        IsScriptHeard B.seat B.view B.stack turns.reuse D.database_of D.entries L.hears (R.remaining reader) no_cast listener
+            result.1 result.0 }
 {
-    act_out(rt, reader, listener, config, Manner::Script, false)
-}
-
-/// Which lines are kept while their sessions wait.
-#[derive(Clone, Copy)]
-pub(crate) struct Keeping {
-    /// The memory for the kept lines.
-    pub alloc: Global,
-    /// Whether the script speaks SQL. Each line that its SQL comes to is kept while the session waits.
-    pub speaks: bool,
-    /// Whether the lines that say no SQL are kept while their sessions wait.
-    pub keeps: bool,
-}
-
-/// In which manner the lines of a script are run.
-#[derive(Clone, Copy)]
-pub(crate) enum Manner {
-    /// The lines are run one after the other, to the first fault.
-    Script,
-    /// The lines are run one after the other, but lines whose sessions wait are kept.
-    Keeping(Keeping),
-}
-
-/// Runs the lines of `reader` in this `manner` before `listener`, against a lock manager of its own of the size `config`. Where `reuse`, the
-/// numbers of closed sessions are given out again.
-pub(crate) fn act_out<H: AllocGlobal + Wait, R: Read + Drop, L: Listener + Drop>(
-    rt: &H,
-    reader: R,
-    listener: L,
-    config: Config,
-    manner: Manner,
-    reuse: bool,
-) -> Result<(), Fault>
-    requires { IsForManager config }
-{
-    let alloc = rt.alloc();
-    let Ok((manager, opener)) = Manager::new(alloc, config) else {
-        return Err(Fault::NoMemory);
-    };
-    let desk = ManagerDesk::new(&manager, opener);
-    let Ok((desk, ended)) = play(rt, alloc, desk, reader, listener, manner, reuse) else {
-        return Err(Fault::NoMemory);
-    };
-    let opener = desk.into_opener();
-    manager.finish(opener);
-    ended
-}
-
-/// Runs the lines of `reader` in this `manner` before `listener`, with the sessions that `desk` opens, none of which is open at the end. Where
-/// `reuse`, the numbers of closed sessions are given out again. Nothing is run where there is no memory for the list of sessions.
-fn play<
-    T: PartTable,
-    B: Board<T>,
-    D: Desk<OwnSession<T, B>> + Drop,
-    H: Wait,
-    R: Read + Drop,
-    L: Listener + Drop,
->(
-    rt: &H,
-    alloc: Global,
-    desk: D,
-    reader: R,
-    listener: L,
-    manner: Manner,
-    reuse: bool,
-) -> Result<(D, Result<(), Fault>), AllocError>
-    requires seats { SeatsAre B.seat D.seat }
-    requires sees { SeesSessions D.database_of D.entries }
-    requires few { (D.manager desk).limit ≤ usual_sessions }
-    requires none_issued { D.issued desk ≡ 0 }
-    requires none_live { D.live desk ≡ 0 }
-    ensures manager { IfOk result (λ played. D.manager played.0 ≡ D.manager desk) }
-    ensures none_live { IfOk result (λ played. D.live played.0 ≡ 0) }
-{
-    if reuse {
-        play_reusing(rt, alloc, desk, reader, listener, manner)
-    } else {
-        play_once(rt, alloc, desk, reader, listener, manner)
-    }
-}
-
-/// Runs the lines of `reader` as `play` does, where each session number is given out once.
-fn play_once<
-    T: PartTable,
-    B: Board<T>,
-    D: Desk<OwnSession<T, B>> + Drop,
-    H: Wait,
-    R: Read + Drop,
-    L: Listener + Drop,
->(
-    rt: &H,
-    alloc: Global,
-    desk: D,
-    reader: R,
-    listener: L,
-    manner: Manner,
-) -> Result<(D, Result<(), Fault>), AllocError>
-    requires seats { SeatsAre B.seat D.seat }
-    requires few { (D.manager desk).limit ≤ usual_sessions }
-    requires none_issued { D.issued desk ≡ 0 }
-    requires none_live { D.live desk ≡ 0 }
-    ensures manager { IfOk result (λ played. D.manager played.0 ≡ D.manager desk) }
-    ensures none_live { IfOk result (λ played. D.live played.0 ≡ 0) }
-{
-    let mut scene = Scene::new(alloc, OnceDesk { desk }, listener)?;
-    let ended = scene.act_out(rt, reader, manner);
-    let Scene { state, listener: _ } = scene;
-    let ScriptState {
-        desk,
-        names: _,
-        sessions,
-    } = state;
-    sessions.finish();
-    Ok((desk.desk, ended))
-}
-
-impl<T: PartTable, B: Board<T>, D: Desk<OwnSession<T, B>>, L: Listener> Scene<
-    T,
-    B,
-    ReusingDesk<T, B, D>,
-    L,
-> {
-    /// A scene as `new` makes it, at a desk over `desk` that gives the numbers of closed sessions out again, before `listener`. Both are let go
-    /// where there is no memory for the lists of sessions.
-    pub fn reusing(alloc: Global, desk: D, listener: L) -> Result<Self, AllocError>
-    where
-        D: Drop,
-        L: Drop,
-        requires seats { SeatsAre B.seat D.seat }
-        requires sees { SeesSessions D.database_of D.entries }
-        requires few { (D.manager desk).limit ≤ usual_sessions }
-        requires none_issued { D.issued desk ≡ 0 }
-        requires none_live { D.live desk ≡ 0 }
-        ensures desk { IfOk result (λ scene. scene.state.desk.desk ≡ desk) }
-        ensures none_waits { IfOk result (λ scene. scene.state.sessions.waiting ≡ []) }
-        ensures none_open { IfOk result (λ scene. scene.state.sessions.resting ≡ []) }
-    {
-        let sessions = OpenSessions::new(alloc)?;
-        let Ok(pool) = SessionPool::new(alloc) else {
-            sessions.finish();
-            return Err(AllocError);
-        };
-        let state = ScriptState {
-            desk: ReusingDesk { desk, pool },
-            names: Names::new(alloc),
-            sessions,
-        };
-        Ok(Scene { state, listener })
-    }
-}
-
-/// Runs the lines of `reader` as `play` does, where the numbers of closed sessions are given out again.
-fn play_reusing<
-    T: PartTable,
-    B: Board<T>,
-    D: Desk<OwnSession<T, B>> + Drop,
-    H: Wait,
-    R: Read + Drop,
-    L: Listener + Drop,
->(
-    rt: &H,
-    alloc: Global,
-    desk: D,
-    reader: R,
-    listener: L,
-    manner: Manner,
-) -> Result<(D, Result<(), Fault>), AllocError>
-    requires seats { SeatsAre B.seat D.seat }
-    requires sees { SeesSessions D.database_of D.entries }
-    requires few { (D.manager desk).limit ≤ usual_sessions }
-    requires none_issued { D.issued desk ≡ 0 }
-    requires none_live { D.live desk ≡ 0 }
-    ensures manager { IfOk result (λ played. D.manager played.0 ≡ D.manager desk) }
-    ensures none_live { IfOk result (λ played. D.live played.0 ≡ 0) }
-{
-    let mut scene = Scene::reusing(alloc, desk, listener)?;
-    let ended = scene.act_out(rt, reader, manner);
-    let Scene { state, listener: _ } = scene;
-    let ScriptState {
-        desk,
-        names: _,
-        sessions,
-    } = state;
-    sessions.finish();
-    let ReusingDesk { mut desk, pool } = desk;
-    pool.end(rt, &mut desk);
-    Ok((desk, ended))
+    let manner = turns.manner(rt.alloc());
+    drive(rt, config, turns.reuse, listener, Script { reader, manner })
 }

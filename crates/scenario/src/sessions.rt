@@ -113,6 +113,7 @@ impl<T: PartTable, B: Board<T>, D: ScriptDesk<OwnSession<T, B>>> ScriptState<T, 
         ensures desk { IfOk result (λ state. state.desk ≡ desk) }
         ensures none_waits { IfOk result (λ state. state.sessions.waiting ≡ []) }
         ensures none_open { IfOk result (λ state. state.sessions.resting ≡ []) }
+        ensures unnamed { IfOk result (λ state. state.names ≡ (record { sessions = []; objects = [] })) }
     {
         let sessions = OpenSessions::new(alloc)?;
         Ok(ScriptState {

@@ -1,18 +1,15 @@
 //! The orders of a script, played against lock managers that are emptied between two orders.
 
-ghost use Rattle.std.specs.Prelude.{◌≡◌, ◌≤◌, IfOk};
+ghost use Rattle.std.specs.Prelude.{◌≡◌};
 ghost use Rattle.lock_manager.specs.Crews.{SeatsAre};
-ghost use Rattle.modes_core.specs.Sessions.{usual_sessions};
 ghost use Rattle.scenario.specs.Sizes.{IsForManager};
 
 use crate::hints::{Reader, push_correction};
-use lock_manager::{
-    Blocked, Config, Desk, Manager, ManagerDesk, OwnSession, Refusal, USUAL_SESSIONS,
-};
+use lock_manager::{Blocked, Config, OwnSession, Refusal, USUAL_SESSIONS};
 use lock_script::{Caller, Command, Fault, Name, Names, parse};
 use lock_table::PartTable;
 use scenario::{
-    Listener, OnceDesk, Pen, Picture, Row, RowText, Said, SaidText, Scene, ScriptDesk, ScriptState,
+    Act, Listener, Pen, Picture, Row, RowText, Said, SaidText, Scene, ScriptDesk, ScriptState, drive,
 };
 use script_orders::{BadLine, Instruction, News, Orders, Player, RefusedSession};
 use shared_rule::Board;
@@ -28,46 +25,27 @@ pub struct OnManagers {
 
 impl Player for OnManagers {
     fn play<H: AllocGlobal + Wait>(&self, rt: &H, orders: &mut Orders<'_>) -> Result<(), Fault> {
-        let alloc = rt.alloc();
-        let Ok((manager, opener)) = Manager::new(alloc, self.config) else {
-            return Err(Fault::NoMemory);
-        };
-        let desk = ManagerDesk::new(&manager, opener);
-        let Ok((desk, ended)) = play_at(rt, alloc, desk, orders) else {
-            return Err(Fault::NoMemory);
-        };
-        let opener = desk.into_opener();
-        manager.finish(opener);
+        let (_, ended) = drive(rt, self.config, false, Spectator { orders }, AllTurns);
         ended
     }
 }
 
-/// Plays the lines that `orders` gives, with the sessions that `desk` opens, none of which is open at the end. No line is played where there is no
-/// memory for the list of sessions.
-fn play_at<T: PartTable, B: Board<T>, D: Desk<OwnSession<T, B>> + Drop, H: Wait>(
-    rt: &H,
-    alloc: Global,
-    desk: D,
-    orders: &mut Orders<'_>,
-) -> Result<(D, Result<(), Fault>), AllocError>
-    requires seats { SeatsAre B.seat D.seat }
-    requires few { (D.manager desk).limit ≤ usual_sessions }
-    requires none_issued { D.issued desk ≡ 0 }
-    requires none_live { D.live desk ≡ 0 }
-    ensures manager { IfOk result (λ played. D.manager played.0 ≡ D.manager desk) }
-    ensures none_live { IfOk result (λ played. D.live played.0 ≡ 0) }
-{
-    let mut scene = Scene::new(alloc, OnceDesk { desk }, Spectator { orders })?;
-    let ended = play_turns(rt, &mut scene);
-    scene.state.close_all(rt);
-    let Scene { state, listener: _ } = scene;
-    let ScriptState {
-        desk,
-        names: _,
-        sessions,
-    } = state;
-    sessions.finish();
-    Ok((desk.desk, ended))
+/// The turns of the orders that the listener has.
+#[derive(Clone, Copy)]
+struct AllTurns;
+
+impl<'a, 'b> Act<Spectator<'a, 'b>> for AllTurns {
+    ghost use Rattle.std.specs.Prelude.{⊤};
+
+    ghost acts = { λ _ _ _ _ _ _ _ _ _ _ _ _. ⊤ };
+
+    fn act<T: PartTable, B: Board<T>, D: ScriptDesk<OwnSession<T, B>>, H: Wait>(
+        self,
+        rt: &H,
+        scene: &mut Scene<T, B, D, Spectator<'a, 'b>>,
+    ) -> Result<(), Fault> {
+        play_turns(rt, scene)
+    }
 }
 
 /// Does in `scene` what the orders of its listener say, turn by turn, to their end or to the first fault.
@@ -171,6 +149,18 @@ impl Listener for Spectator<'_, '_> {
     }
 
     fn end_line(&mut self) -> Result<(), Fault> {
+        Ok(())
+    }
+
+    fn keep_line(&mut self, _number: u32, _text: &str, _more: bool) -> Result<(), Fault> {
+        Ok(())
+    }
+
+    fn ended(&mut self, _names: &Names, _tells_left: bool) -> Result<(), Fault> {
+        Ok(())
+    }
+
+    fn left(&mut self, _waiting: &[Name], _lines: u64) -> Result<(), Fault> {
         Ok(())
     }
 }

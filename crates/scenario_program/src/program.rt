@@ -180,7 +180,8 @@ fn run_input<H: AllocGlobal + Wait, R: Read + Drop, W: Write + Drop, E: Write>(
                 outcome: &mut outcome,
                 summary: options.summary.then(|| Summary::new(alloc)),
             };
-            run_in_turn(rt, input.reader, witness, config, options.turns)
+            let (_, ended) = run_in_turn(rt, input.reader, witness, config, options.turns);
+            ended
         }
     };
     match ended {

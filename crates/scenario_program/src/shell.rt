@@ -1,19 +1,17 @@
 //! A shell: the lines of a script as somebody types them, with help, and with what is wrong with a bad one.
-ghost use Rattle.std.specs.Prelude.{◌≡◌, ◌≤◌, IfOk};
+ghost use Rattle.std.specs.Prelude.{◌≡◌};
 ghost use Rattle.lock_manager.specs.Crews.{SeatsAre};
-ghost use Rattle.modes_core.specs.Sessions.{usual_sessions};
-ghost use Rattle.scenario.specs.Numbers.{SeesSessions};
 ghost use Rattle.scenario.specs.Sizes.{IsForManager};
 
 use crate::forms::ends_shell;
 use crate::hints::{Reader, push_correction};
 use crate::topics::help;
-use lock_manager::{Config, Desk, Manager, ManagerDesk, OwnSession};
+use lock_manager::{Config, OwnSession};
 use lock_script::{
     Defect, Fault, LineReader, Name, NamedObject, ObjectNames, OpenSessions, parse, split_words,
 };
 use lock_table::PartTable;
-use scenario::{Listener, OnceDesk, Output, ReusingDesk, Scene, ScriptDesk, ScriptState};
+use scenario::{Act, Listener, Output, Scene, ScriptDesk, drive};
 use shared_rule::Board;
 use std::alloc::{AllocError, Global};
 use std::io::{Read, Write};
@@ -115,129 +113,35 @@ pub fn run_shell<H: AllocGlobal + Wait, R: Read + Drop, W: Write + Drop>(
 ) -> Result<(), Fault>
     requires { IsForManager config }
 {
-    let alloc = rt.alloc();
-    let Ok((manager, opener)) = Manager::new(alloc, config) else {
-        return Err(Fault::NoMemory);
-    };
-    let desk = ManagerDesk::new(&manager, opener);
     let shell = Shell {
-        alloc,
+        alloc: rt.alloc(),
         is_terminal: options.is_terminal,
     };
-    let output = Output::new(writer);
-    let Ok((desk, ended)) = converse_at(rt, desk, reader, output, shell, options.reuse) else {
-        return Err(Fault::NoMemory);
-    };
-    let opener = desk.into_opener();
-    manager.finish(opener);
+    let typed = Typing { reader, shell };
+    let (_, ended) = drive(rt, config, options.reuse, Output::new(writer), typed);
     ended
 }
 
-/// Has `shell` answer the lines of `reader` before `listener`, with the sessions that `desk` opens, none of which is open at the end. Where `reuse`,
-/// the numbers of closed sessions are given out again. No line is read where there is no memory for the list of sessions.
-fn converse_at<
-    T: PartTable,
-    B: Board<T>,
-    D: Desk<OwnSession<T, B>> + Drop,
-    H: Wait,
-    R: Read + Drop,
-    L: Listener + Drop,
->(
-    rt: &H,
-    desk: D,
+/// The lines that somebody types, which a shell answers.
+#[derive(Drop)]
+struct Typing<R> {
     reader: R,
-    listener: L,
     shell: Shell,
-    reuse: bool,
-) -> Result<(D, Result<(), Fault>), AllocError>
-    requires seats { SeatsAre B.seat D.seat }
-    requires sees { SeesSessions D.database_of D.entries }
-    requires few { (D.manager desk).limit ≤ usual_sessions }
-    requires none_issued { D.issued desk ≡ 0 }
-    requires none_live { D.live desk ≡ 0 }
-    ensures manager { IfOk result (λ played. D.manager played.0 ≡ D.manager desk) }
-    ensures none_live { IfOk result (λ played. D.live played.0 ≡ 0) }
-{
-    if reuse {
-        converse_reusing(rt, desk, reader, listener, shell)
-    } else {
-        converse_once(rt, desk, reader, listener, shell)
+}
+
+impl<R: Read + Drop, L: Listener> Act<L> for Typing<R> {
+    ghost use Rattle.std.specs.Prelude.{⊤};
+
+    ghost acts = { λ _ _ _ _ _ _ _ _ _ _ _ _. ⊤ };
+
+    fn act<T: PartTable, B: Board<T>, D: ScriptDesk<OwnSession<T, B>>, H: Wait>(
+        self,
+        rt: &H,
+        scene: &mut Scene<T, B, D, L>,
+    ) -> Result<(), Fault> {
+        let Typing { reader, shell } = self;
+        converse(rt, scene, reader, shell)
     }
-}
-
-/// Has `shell` answer the lines of `reader` before `listener` as `converse_at` does, with the sessions that `desk` opens. Each session number is
-/// given out once.
-fn converse_once<
-    T: PartTable,
-    B: Board<T>,
-    D: Desk<OwnSession<T, B>> + Drop,
-    H: Wait,
-    R: Read + Drop,
-    L: Listener + Drop,
->(
-    rt: &H,
-    desk: D,
-    reader: R,
-    listener: L,
-    shell: Shell,
-) -> Result<(D, Result<(), Fault>), AllocError>
-    requires seats { SeatsAre B.seat D.seat }
-    requires few { (D.manager desk).limit ≤ usual_sessions }
-    requires none_issued { D.issued desk ≡ 0 }
-    requires none_live { D.live desk ≡ 0 }
-    ensures manager { IfOk result (λ played. D.manager played.0 ≡ D.manager desk) }
-    ensures none_live { IfOk result (λ played. D.live played.0 ≡ 0) }
-{
-    let mut scene = Scene::new(shell.alloc, OnceDesk { desk }, listener)?;
-    let ended = converse(rt, &mut scene, reader, shell);
-    scene.state.close_all(rt);
-    let Scene { state, listener: _ } = scene;
-    let ScriptState {
-        desk,
-        names: _,
-        sessions,
-    } = state;
-    sessions.finish();
-    Ok((desk.desk, ended))
-}
-
-/// Has `shell` answer the lines of `reader` before `listener` as `converse_at` does, with the sessions that `desk` opens. The numbers of closed
-/// sessions are given out again.
-fn converse_reusing<
-    T: PartTable,
-    B: Board<T>,
-    D: Desk<OwnSession<T, B>> + Drop,
-    H: Wait,
-    R: Read + Drop,
-    L: Listener + Drop,
->(
-    rt: &H,
-    desk: D,
-    reader: R,
-    listener: L,
-    shell: Shell,
-) -> Result<(D, Result<(), Fault>), AllocError>
-    requires seats { SeatsAre B.seat D.seat }
-    requires sees { SeesSessions D.database_of D.entries }
-    requires few { (D.manager desk).limit ≤ usual_sessions }
-    requires none_issued { D.issued desk ≡ 0 }
-    requires none_live { D.live desk ≡ 0 }
-    ensures manager { IfOk result (λ played. D.manager played.0 ≡ D.manager desk) }
-    ensures none_live { IfOk result (λ played. D.live played.0 ≡ 0) }
-{
-    let mut scene = Scene::reusing(shell.alloc, desk, listener)?;
-    let ended = converse(rt, &mut scene, reader, shell);
-    scene.state.close_all(rt);
-    let Scene { state, listener: _ } = scene;
-    let ScriptState {
-        desk,
-        names: _,
-        sessions,
-    } = state;
-    sessions.finish();
-    let ReusingDesk { mut desk, pool } = desk;
-    pool.end(rt, &mut desk);
-    Ok((desk, ended))
 }
 
 /// Runs the lines of `reader` in `scene` by `shell`, to the line that ends it, the end of the reader, or a fault that is no

@@ -15,7 +15,7 @@ use std::alloc::{AllocError, Global};
 use std::io::{Read, Write};
 use std::sync::Wait;
 
-/// Runs the script that the reader gives, as `run_before` does, and writes a picture of the whole script: as SVG, or where `style` asks for
+/// Runs the script that the reader gives, as `run_script` does, and writes a picture of the whole script: as SVG, or where `style` asks for
 /// `Drawing::Gantt` as Mermaid's chart, and with `style.json` as an object of JSON. Nothing is written where the script ends with a fault.
 pub fn draw_script<H: AllocGlobal + Wait, R: Read + Drop, W: Write + Drop>(
     rt: &H,
@@ -29,11 +29,7 @@ pub fn draw_script<H: AllocGlobal + Wait, R: Read + Drop, W: Write + Drop>(
     let mut outcome = Outcome::new(rt.alloc());
     let options = RunOptions {
         style,
-        turns: Turns {
-            keep: false,
-            reuse: false,
-            sql: false,
-        },
+        turns: Turns::PLAIN,
         summary: false,
         fail_on: FailOn::named(&[]),
     };
@@ -58,7 +54,8 @@ pub fn draw_heard_script<H: AllocGlobal + Wait, R: Read + Drop, W: Write + Drop>
         outcome,
         alloc,
     };
-    run_in_turn(rt, reader, draftsman, config, options.turns)?;
+    let (_, ended) = run_in_turn(rt, reader, draftsman, config, options.turns);
+    ended?;
     write_sketch(alloc, writer, &sketch, options.style)
 }
 
@@ -320,6 +317,14 @@ impl Listener for Draftsman<'_> {
     }
 
     fn end_line(&mut self) -> Result<(), Fault> {
+        Ok(())
+    }
+
+    fn ended(&mut self, _names: &Names, _tells_left: bool) -> Result<(), Fault> {
+        Ok(())
+    }
+
+    fn left(&mut self, _waiting: &[Name], _lines: u64) -> Result<(), Fault> {
         Ok(())
     }
 }

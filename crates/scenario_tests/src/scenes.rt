@@ -6,7 +6,7 @@ ghost use Rattle.modes_core.specs.Sessions.{usual_sessions};
 use crate::scripts::{ALL_SESSIONS, expect_run};
 use lock_manager::{Desk, Manager, ManagerDesk, OwnSession};
 use lock_table::PartTable;
-use scenario::{OnceDesk, Output, Scene, ScriptState};
+use scenario::{Manner, OnceDesk, Output, Scene, Script, ScriptState};
 use shared_rule::Board;
 use std::alloc::Global;
 use std::process::Abort;
@@ -75,10 +75,14 @@ fn play_in_turn<T: PartTable, B: Board<T>, D: Desk<OwnSession<T, B>> + Drop, R: 
     requires none_live { D.live desk ≡ 0 }
     requires few { (D.manager desk).limit ≤ usual_sessions }
 {
-    let mut scene = Scene::new(alloc, OnceDesk { desk }, Output::new(output))?;
+    let state = ScriptState::new(alloc, OnceDesk { desk })?;
+    let listener = Output::new(output);
+    let mut scene = Scene { state, listener };
     'turns: for turn in &IN_TURN {
         let (script, is_good) = *turn;
-        let ended = scene.play(rt, script.as_bytes());
+        let reader = script.as_bytes();
+        let manner = Manner::Plain;
+        let ended = scene.act_out(rt, Script { reader, manner });
         assert_eq!(rt; ended.is_ok(), is_good, "{script:?}");
     }
     let Scene { state, listener: _ } = scene;

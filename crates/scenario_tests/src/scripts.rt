@@ -92,7 +92,8 @@ fn expect_read(
         slot_groups: config.slot_groups.clamp(1, MOST_GROUPS),
     };
     let mut output = Vec::new(alloc);
-    let ended = match run_script(rt, reader, &mut output, within) {
+    let (_, ended) = run_script(rt, reader, &mut output, within);
+    let ended = match ended {
         Ok(()) => String::new(alloc),
         Err(fault) => format!(in alloc; "{fault}")?,
     };
@@ -343,7 +344,7 @@ fn expect_ended(
     pipe: Pipe,
     expected: Result<(), Fault>,
 ) {
-    let ended = run_script(rt, script.as_bytes(), pipe, ALL_SESSIONS);
+    let (_, ended) = run_script(rt, script.as_bytes(), pipe, ALL_SESSIONS);
     assert!(rt; ended == expected, "{script:?}");
 }
 

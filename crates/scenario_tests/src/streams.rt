@@ -94,7 +94,7 @@ fn expect_read_failed(
         reads,
     };
     let mut output = Vec::new(alloc);
-    let ended = run_script(rt, reader, &mut output, ALL_SESSIONS);
+    let (_, ended) = run_script(rt, reader, &mut output, ALL_SESSIONS);
     let (_, printed) = lines_within(alloc, most.saturating_mul(reads))?;
     expect_end(
         rt,
@@ -119,7 +119,7 @@ fn expect_written(
         taken: &mut taken,
         writes,
     };
-    let ended = run_script(rt, script.as_bytes(), writer, ALL_SESSIONS);
+    let (_, ended) = run_script(rt, script.as_bytes(), writer, ALL_SESSIONS);
     let expected = if writes < printed.len() {
         Err(Fault::WriteFailed)
     } else {

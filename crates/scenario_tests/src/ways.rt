@@ -215,7 +215,8 @@ fn played_alone(
     };
     let script = small.script(alloc, merge)?;
     let mut printed = Vec::new(alloc);
-    let run = match run_script(rt, script.as_str().as_bytes(), &mut printed, config) {
+    let (_, ended) = run_script(rt, script.as_str().as_bytes(), &mut printed, config);
+    let run = match ended {
         Ok(()) => merge.len(),
         Err(
             Fault::BadLine {

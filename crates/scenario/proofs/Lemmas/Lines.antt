@@ -1,6 +1,6 @@
 -- The lines of a script, one by one.
 use Rattle.std.proofs.Common.{◌≡◌, ◌∙◌, ℕ, ◌+◌, List, [], ◌∷◌, ◌++◌, append-nil, append_assoc, length, length-append, refl, sym, subst, ap, arith, suc, zero-add, add-zero, inl, inr, None, Some, IfSome, Ok, Err, Result}
-use Rattle.std.specs.Prelude.{Bool, IsErrAnd, Option}
+use Rattle.std.specs.Prelude.{Bool, IfErr, IsErrAnd, OnOk, Option}
 use Rattle.local_locks.specs.declared.records.Entry.{Entry}
 use Rattle.lock_manager.specs.Sessions.{SessionView}
 use Rattle.lock_script.specs.Lines.{Reads, after_line, reading_of}
@@ -11,7 +11,7 @@ use Rattle.lock_script.specs.declared.faults.Fault.TheVariants.{BadLine, ReadFai
 use Rattle.lock_world.specs.Account.{Account}
 use Rattle.shared_rule.specs.Boards.{Seated, Stack}
 use Rattle.scenario.specs.Answers.{Cast}
-use Rattle.scenario.specs.Heard.{Heard, Hears, HearsAll, IsUnheard, Line}
+use Rattle.scenario.specs.Heard.{Heard, Hears, HearsAll, IsEnd, IsUnheard, Line}
 use Rattle.scenario.specs.Played.{Plays}
 use Rattle.scenario.specs.Scripts.{AreFirstLines, AreNextLines, IsBadLine, IsScriptHeard, PlaysLine, PlaysLines, RunsLine, words_in}
 use Rattle.scenario.proofs.Lemmas.Hearing.{hears-append}
@@ -151,13 +151,14 @@ module _
         hears_ = hears-append hears before now then so_far.played here so_far.hears_ heard;
       }
 
-  -- the end of the script
+  -- the end of the script, which the listener hears, unless it fails
   pub ends-well :
-      (script : Option (List ℕ)) (first : Cast B) (before : L) (number : ℕ) (left : Option (List ℕ)) (new : Cast B) (now : L) (ended : Unit {0}) →
-      HavePlayed script first before number left new now → IfSome left (λ unread. reading_of number unread ≡ Ok None) →
-      IsScriptHeard seat view stack again database_of entries hears script first before (Ok ended) now
-  ends-well script first before number left new now ended so_far reads = (
-    so_far.played,
+      (script : Option (List ℕ)) (first : Cast B) (before : L) (number : ℕ) (left : Option (List ℕ)) (new : Cast B) (now then : L)
+      (told : Result (Unit {0}) Fault) → HavePlayed script first before number left new now →
+      IfSome left (λ unread. reading_of number unread ≡ Ok None) → OnOk told (Hears hears now then IsEnd) → IfErr told IsUnheard →
+      IsScriptHeard seat view stack again database_of entries hears script first before told then
+  ends-well script first before number left new now then (Ok ended) so_far reads (last, is_end, heard) unheard = (
+    so_far.played ++ last,
     record {
       texts = so_far.texts;
       left = left;
@@ -165,12 +166,17 @@ module _
       played = so_far.played;
       new = new;
       plays = so_far.plays;
-      last = [];
-      ends = (subst (λ (n : ℕ). IfSome left (λ unread. reading_of n unread ≡ Ok None)) so_far.count reads, refl);
-      all = sym (append-nil so_far.played);
+      last = last;
+      ends = (subst (λ (n : ℕ). IfSome left (λ unread. reading_of n unread ≡ Ok None)) so_far.count reads, is_end);
+      all = refl;
     },
-    so_far.hears_,
+    hears-append hears before now then so_far.played last so_far.hears_ heard,
   )
+  ends-well script first before number left new now then (Err (BadLine line what)) so_far reads heard unheard = absurd unheard
+  ends-well script first before number left new now then (Err ReadFailed) so_far reads heard unheard = absurd unheard
+  ends-well script first before number left new now then (Err WriteFailed) so_far reads heard unheard = tt
+  ends-well script first before number left new now then (Err NoMemory) so_far reads heard unheard = tt
+  ends-well script first before number left new now then (Err GateHeld) so_far reads heard unheard = absurd unheard
 
   -- a line that can't be read
   pub ends-unread :

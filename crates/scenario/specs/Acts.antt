@@ -1,0 +1,53 @@
+use Rattle.std.specs.Prelude.{ℕ, Bool, List, [], ⊤, Option, Result, Ok, Err, IfSome}
+use Rattle.std.specs.Io.KnownBytes.{Appends}
+use Rattle.local_locks.specs.declared.records.Entry.{Entry}
+use Rattle.lock_manager.specs.Sessions.{SessionView}
+use Rattle.lock_script.specs.declared.faults.Fault.{Fault}
+use Rattle.lock_script.specs.declared.faults.Fault.TheVariants.{BadLine, ReadFailed, WriteFailed, NoMemory, GateHeld}
+use Rattle.lock_world.specs.Account.{Account}
+use Rattle.shared_rule.specs.Boards.{Seated, Stack}
+use Rattle.scenario.specs.Answers.{Cast}
+use Rattle.scenario.specs.Heard.{Heard}
+use Rattle.scenario.specs.Printed.{IsFormOf}
+use Rattle.scenario.specs.Scripts.{PlaysScript}
+use Rattle.scenario.specs.Written.{text_of_all}
+use Rattle.scenario.specs.declared.runs.Manner.{Manner}
+use Rattle.scenario.specs.declared.runs.Manner.TheVariants.{Keeping, Plain}
+use Rattle.scenario.specs.declared.style.Form.{Form}
+
+-- What is done in a scene, and what is written of a script that is run from nothing.
+
+-- no session, and no name
+abbrev pub no_cast : {B : Type 0} → Cast B
+no_cast = record { sessions = record { resting = []; waiting = [] }; names = record { sessions = []; objects = [] } }
+
+-- What an act of the kind A is, before a listener of the kind L: over a board and a desk of which these are known, it begins with a cast and a
+-- listener, ends so, and leaves the listener so.
+abbrev pub ActsOf : Type 0 → Type 0 → Type 1
+ActsOf A L =
+    (B : Type 0) → (B → Seated) → (B → Account) → (B → Stack) → Bool → (SessionView B → ℕ) → (SessionView B → List Entry) → A → Cast B → L →
+    Result (Unit {0}) Fault → L → Type 0
+
+-- P, where lines are run as they come
+abbrev pub IfPlain : Manner → Type 0 → Type 0
+IfPlain Plain P = P
+IfPlain (Keeping keeping) P = ⊤
+
+-- P, unless the output or the memory failed
+abbrev pub UnlessUnheard : Result (Unit {0}) Fault → Type 0 → Type 0
+UnlessUnheard (Ok ended) P = P
+UnlessUnheard (Err (BadLine line what)) P = P
+UnlessUnheard (Err ReadFailed) P = P
+UnlessUnheard (Err WriteFailed) P = ⊤
+UnlessUnheard (Err NoMemory) P = ⊤
+UnlessUnheard (Err GateHeld) P = ⊤
+
+module _
+    {B : Type 0} (seat : B → Seated) (view : B → Account) (stack : B → Stack) (again : Bool) (database_of : SessionView B → ℕ) (entries : SessionView B → List Entry) where
+  -- A script is run from nothing, and what is heard of it is written behind what the writer has, where its bytes and the text of all of it are known.
+  pub record WritesScript (script : Option (List ℕ)) (json is_echoing : Bool) (before : Option (List ℕ)) (ended : Result (Unit {0}) Fault) (after : Option (List ℕ)) : Type 0 where
+    pub heard : List Heard
+    pub plays : PlaysScript seat view stack again database_of entries script no_cast ended heard
+    pub form : Form
+    pub is_form : IsFormOf json form
+    pub written : IfSome (text_of_all form is_echoing 0 heard) (Appends before after)
