@@ -12,6 +12,8 @@ mod groups;
 #[cfg(test)]
 mod hammers;
 #[cfg(test)]
+mod headers;
+#[cfg(test)]
 mod help_texts;
 #[cfg(test)]
 mod inputs;

@@ -11,10 +11,11 @@ use std::test::Fail;
 use std::thread::Threads;
 use std::time::Clock;
 
-/// A reader of a text, which fails at the end of the text if it is to.
+/// A reader of a text, which gives some bytes a read at most, and fails at the end of the text if it is to.
 #[derive(Drop)]
 struct Input<'a> {
     text: &'a [u8],
+    most: usize,
     fails: bool,
 }
 
@@ -23,7 +24,8 @@ impl Read for Input<'_> {
         if self.text.is_empty() && self.fails {
             return Err(io::Error::from(ErrorKind::Other));
         }
-        self.text.read(buf)
+        let most = self.most.min(buf.len());
+        self.text.read(&mut buf[..most])
     }
 }
 
@@ -144,10 +146,22 @@ pub fn expect_program(
     is_terminal: bool,
     run: Run<'_>,
 ) {
+    expect_read(rt, words, is_terminal, usize::MAX, run);
+}
+
+/// Runs the program as `expect_program` does, on an input that is read `most` bytes at a time.
+pub fn expect_read(
+    rt: &(impl Abort + AllocGlobal + Clock + Files + Threads + Wait + Sync),
+    words: io::Result<Vec<String>>,
+    is_terminal: bool,
+    most: usize,
+    run: Run<'_>,
+) {
     let (script, fails, status, printed, said) = run;
     let reader = Source {
         reader: Input {
             text: script.as_bytes(),
+            most,
             fails,
         },
         is_terminal,

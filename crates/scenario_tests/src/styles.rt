@@ -325,8 +325,7 @@ fn expect_styled(
     printed: &str,
 ) -> Result<(), Fail> {
     let mut output = Vec::new(rt.alloc());
-    let (_, ended) =
-        run_styled_script(rt, script.as_bytes(), &mut output, ALL_SESSIONS, style);
+    let (_, ended) = run_styled_script(rt, script.as_bytes(), &mut output, ALL_SESSIONS, style);
     assert!(rt; ended.is_ok(), "the fault of {script:?}");
     assert_eq!(rt;
         output.as_slice(),
