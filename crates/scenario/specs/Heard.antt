@@ -34,9 +34,13 @@ pub data Heard : Type 0 where
   -- the sessions of these names are left waiting at the end, and so many lines were not reached
   Left : List (ArrayString 16) → ℕ → Heard
 
+-- A last picture is heard, where one is wanted.
+abbrev pub IsLastPicture : List Heard → Type 0
+IsLastPicture heard = (heard ≡ []) ⊎ (heard ≡ Drawn ∷ [])
+
 -- What is heard at the end of a script that has no bad line: a picture, where one is wanted, and that it has ended.
 abbrev pub IsEnd : List Heard → Type 0
-IsEnd heard = (heard ≡ Ended ∷ []) ⊎ (heard ≡ Drawn ∷ Ended ∷ [])
+IsEnd heard = (picture : List Heard) × IsLastPicture picture × (heard ≡ picture ++ Ended ∷ [])
 
 -- Why a listener doesn't hear something: it can't be written, or there is no memory for it.
 abbrev pub IsUnheard : Fault → Type 0

@@ -128,13 +128,7 @@ fn drive_once<
     H: Wait,
     L: Listener,
     A: Act<L> + Drop,
->(
-    rt: &H,
-    alloc: Global,
-    desk: D,
-    listener: L,
-    act: A,
-) -> (L, Option<(D, Result<(), Fault>)>)
+>(rt: &H, alloc: Global, desk: D, listener: L, act: A) -> (L, Option<(D, Result<(), Fault>)>)
     requires seats { SeatsAre B.seat D.seat }
     requires few { (D.manager desk).limit ≤ usual_sessions }
     requires none_issued { D.issued desk ≡ 0 }
@@ -167,13 +161,7 @@ fn drive_reusing<
     H: Wait,
     L: Listener,
     A: Act<L> + Drop,
->(
-    rt: &H,
-    alloc: Global,
-    desk: D,
-    listener: L,
-    act: A,
-) -> (L, Option<(D, Result<(), Fault>)>)
+>(rt: &H, alloc: Global, desk: D, listener: L, act: A) -> (L, Option<(D, Result<(), Fault>)>)
     requires seats { SeatsAre B.seat D.seat }
     requires sees { SeesSessions D.database_of D.entries }
     requires few { (D.manager desk).limit ≤ usual_sessions }

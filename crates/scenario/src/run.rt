@@ -3,7 +3,7 @@ ghost use Rattle.std.specs.Prelude.{◌≡◌, ◌≤◌, ◌<◌, true, length,
 ghost use Rattle.lock_manager.specs.Crews.{SeatsAre};
 ghost use Rattle.lock_script.specs.Command.{Addresses, NamesCounter, NamesFree};
 ghost use Rattle.lock_script.specs.Sessions.{IsThere, MayAct};
-ghost use Rattle.scenario.specs.Heard.{Hears, IsEnd, IsUnheard};
+ghost use Rattle.scenario.specs.Heard.{Hears, IsEnd, IsLastPicture, IsUnheard};
 ghost use Rattle.scenario.specs.Played.{DrawsPicture, Follows, IsPassHeard, IsPollHeard, Plays, Settles, TellsWait};
 ghost use Rattle.scenario.specs.Scripts.{IsBadLine, IsScriptHeard, PlaysLine};
 
@@ -25,27 +25,43 @@ pub struct Scene<T: PartTable, B: Board<T>, D: ScriptDesk<OwnSession<T, B>>, L: 
 }
 
 impl<T: PartTable, B: Board<T>, D: ScriptDesk<OwnSession<T, B>>, L: Listener> Scene<T, B, D, L> {
-    /// Draws who waits for whom at the end of the script, where the listener wants that, and tells the listener that the script has ended. Where
-    /// `tells_left`, the listener hears next who is left waiting.
+    /// Draws who waits for whom at the end of the script, where the listener wants that, and tells the listener that the script
+    /// has ended. Where `tells_left`, the listener hears next who is left waiting.
     pub(crate) fn tell_end<H: Wait>(&mut self, rt: &H, tells_left: bool) -> Result<(), Fault>
         ensures heard { OnOk result (Hears L.hears self.old.listener self.new.listener IsEnd) }
         ensures unheard { IfErr result IsUnheard }
         ensures manager { D.manager self.new.state.desk ≡ D.manager self.old.state.desk }
     {
-        if let Some(pen) = self.listener.last_pen() {
-            let Ok(picture) = self.state.last_picture(rt, pen) else {
-                return Err(Fault::NoMemory);
-            };
-            let state = &self.state;
-            self.listener.picture(&state.names, &picture)?;
-        }
+        self.draw_last(rt)?;
         let state = &self.state;
         self.listener.ended(&state.names, tells_left)
     }
 
+    /// Draws who waits for whom at the end of the script, where the listener wants that.
+    fn draw_last<H: Wait>(&mut self, rt: &H) -> Result<(), Fault>
+        ensures drawn { OnOk result (Hears L.hears self.old.listener self.new.listener IsLastPicture) }
+        ensures unheard { IfErr result IsUnheard }
+        ensures manager { D.manager self.new.state.desk ≡ D.manager self.old.state.desk }
+    {
+        let Some(pen) = self.listener.last_pen() else {
+            return Ok(());
+        };
+        match self.state.last_picture(rt, pen) {
+            Ok(picture) => {
+                let state = &self.state;
+                self.listener.picture(&state.names, &picture)
+            }
+            Err(_) => Err(Fault::NoMemory),
+        }
+    }
+
     /// Runs the lines of `reader`, to the end of the script or to the first fault, and tells the listener that the script has
     /// ended where it has no bad line.
-    pub(crate) fn run_lines<H: Wait, R: Read + Drop>(&mut self, rt: &H, reader: R) -> Result<(), Fault>
+    pub(crate) fn run_lines<H: Wait, R: Read + Drop>(
+        &mut self,
+        rt: &H,
+        reader: R,
+    ) -> Result<(), Fault>
         requires seats { SeatsAre B.seat D.seat }
         ensures played { IsScriptHeard B.seat B.view B.stack D.again D.database_of D.entries L.hears (R.remaining reader)
             (record { sessions = self.old.state.sessions; names = self.old.state.names }) self.old.listener result self.new.listener }

@@ -114,7 +114,7 @@ pub fn run_script<H: AllocGlobal + Wait, R: Read + Drop, W: Write + Drop>(
     ensures written { let B = ⟦<SeatBoard<'static, Part> as Board<Part>>⟧ in
         let D = ⟦<ManagerDesk<'static> as Desk<Session<'static>>>⟧ in
         UnlessUnheard result.1 (WritesScript B.seat B.view B.stack false D.database_of D.entries (R.remaining reader) false false
-            (W.contents writer) result.1 (W.contents result.0)) }
+        (W.contents writer) result.1 (W.contents result.0)) }
 {
     run_styled_script(rt, reader, writer, config, Style::PLAIN)
 }
@@ -131,7 +131,7 @@ pub fn run_styled_script<H: AllocGlobal + Wait, R: Read + Drop, W: Write + Drop>
     ensures written { let B = ⟦<SeatBoard<'static, Part> as Board<Part>>⟧ in
         let D = ⟦<ManagerDesk<'static> as Desk<Session<'static>>>⟧ in
         UnlessUnheard result.1 (WritesScript B.seat B.view B.stack false D.database_of D.entries (R.remaining reader) style.json
-            style.echo (W.contents writer) result.1 (W.contents result.0)) }
+        style.echo (W.contents writer) result.1 (W.contents result.0)) }
 {
     let output = Output::styled(rt.alloc(), writer, style);
     let (output, ended) = run_in_turn(rt, reader, output, config, Turns::PLAIN);
@@ -155,7 +155,7 @@ pub fn run_in_turn<H: AllocGlobal + Wait, R: Read + Drop, L: Listener>(
     ensures heard { let B = ⟦<SeatBoard<'static, Part> as Board<Part>>⟧ in
         let D = ⟦<ManagerDesk<'static> as Desk<Session<'static>>>⟧ in turns.keep ≡ false → turns.sql ≡ false →
         IsScriptHeard B.seat B.view B.stack turns.reuse D.database_of D.entries L.hears (R.remaining reader) no_cast listener
-            result.1 result.0 }
+        result.1 result.0 }
 {
     let manner = turns.manner(rt.alloc());
     drive(rt, config, turns.reuse, listener, Script { reader, manner })

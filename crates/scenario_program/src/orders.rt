@@ -9,7 +9,8 @@ use lock_manager::{Blocked, Config, OwnSession, Refusal, USUAL_SESSIONS};
 use lock_script::{Caller, Command, Fault, Name, Names, parse};
 use lock_table::PartTable;
 use scenario::{
-    Act, Listener, Pen, Picture, Row, RowText, Said, SaidText, Scene, ScriptDesk, ScriptState, drive,
+    Act, Listener, Pen, Picture, Row, RowText, Said, SaidText, Scene, ScriptDesk, ScriptState,
+    drive,
 };
 use script_orders::{BadLine, Instruction, News, Orders, Player, RefusedSession};
 use shared_rule::Board;

@@ -1,7 +1,7 @@
 -- What is heard, part by part.
-use Rattle.std.proofs.Common.{◌≡◌, ◌∙◌, ℕ, ◌+◌, ◌<◌, List, [], ◌∷◌, ◌++◌, length, get_or, refl, sym, subst, ap, zero, suc, add-one, arith, inl, inr}
+use Rattle.std.proofs.Common.{◌≡◌, ◌∙◌, ℕ, ◌+◌, ◌<◌, List, [], ◌∷◌, ◌++◌, length, get_or, refl, sym, subst, ap, zero, suc, add-one, arith}
 use Rattle.std.specs.Prelude.{map, take}
-use Rattle.scenario.specs.Heard.{Drawn, Ended, Heard, Hears, HearsAll, IsEnd}
+use Rattle.scenario.specs.Heard.{Ended, Heard, Hears, HearsAll, IsEnd, IsLastPicture}
 
 module _ {L : Type 0} (hears : L → Heard → L → Type 0) where
   -- what is heard first, and then
@@ -12,15 +12,13 @@ module _ {L : Type 0} (hears : L → Heard → L → Type 0) where
   pub hears-one : (old new : L) (one : Heard) → hears old one new → HearsAll hears old (one ∷ []) new
   hears-one old new one here = (new, here, refl)
 
-  -- the end of a script is heard, with a picture before it or without
-  pub hears-end : (old new : L) → hears old Ended new → Hears hears old new IsEnd
-  hears-end old new ended = (Ended ∷ [], inl refl, hears-one old new Ended ended)
-
-  pub hears-drawn-end : (old mid new : L) → hears old Drawn mid → hears mid Ended new → Hears hears old new IsEnd
-  hears-drawn-end old mid new drawn ended = (Drawn ∷ Ended ∷ [], inr refl, (mid, drawn, hears-one mid new Ended ended))
-
   pub hears-more : (old mid new : L) (first : List Heard) (one : Heard) → HearsAll hears old first mid → hears mid one new → HearsAll hears old (first ++ one ∷ []) new
   hears-more old mid new first one before here = hears-append old mid new first (one ∷ []) before (hears-one mid new one here)
+
+  -- the end of a script is heard, behind a picture where one is wanted
+  pub hears-end : (old mid new : L) → Hears hears old mid IsLastPicture → hears mid Ended new → Hears hears old new IsEnd
+  hears-end old mid new (picture, last, heard) ended =
+      (picture ++ Ended ∷ [], (picture, last, refl), hears-more old mid new picture Ended heard ended)
 
   -- what is heard of one more element of a list
   pub hears-next :
