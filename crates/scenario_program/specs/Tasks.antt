@@ -12,7 +12,7 @@ pub record HasSlotGroups (config : Config) : Type 0 where
 -- P of the configuration, where the words ask for a run, orders or a shell
 abbrev pub OfRun : Task → (Config → Type 0) → Type 0
 OfRun (task.Run config style) P = P config
-OfRun (task.Orders config options) P = P config
+OfRun (task.Orders config options hints) P = P config
 OfRun (task.Shell config reuse) P = P config
 OfRun task.Sql P = Unit {0}
 OfRun (task.Hammer hammer) P = Unit {0}
@@ -22,7 +22,7 @@ OfRun task.Man P = Unit {0}
 -- P of the numbers, where the words ask for a hammer
 abbrev pub OfHammer : Task → (Hammer → Type 0) → Type 0
 OfHammer (task.Run config style) P = Unit {0}
-OfHammer (task.Orders config options) P = Unit {0}
+OfHammer (task.Orders config options hints) P = Unit {0}
 OfHammer (task.Shell config reuse) P = Unit {0}
 OfHammer task.Sql P = Unit {0}
 OfHammer (task.Hammer hammer) P = P hammer

@@ -6,7 +6,9 @@ ghost use Rattle.scenario_program.specs.Tasks.{HasSlotGroups, OfHammer, OfRun};
 
 use crate::helps::{HAMMER_HELP, Helps, MODES_HELP, ORDERS_HELP, SHELL_HELP};
 use crate::options::RunOptions;
-use crate::run_words::{REUSE, reuse_argument, run_options_of, with_manners, with_styles};
+use crate::run_words::{
+    HINTS, REUSE, hints_argument, reuse_argument, run_options_of, with_manners, with_styles,
+};
 use clap::error::ErrorKind;
 use clap::{Arg, ArgAction, ArgMatches, Command, Error, value_parser};
 use lock_hammer::Hammer;
@@ -130,7 +132,8 @@ fn with_config<'a>(
     command.arg(sessions)?.arg(max_local)?.arg(slot_groups)
 }
 
-/// The subcommand `orders [--sessions N] [--max-local M] [--slot-groups G] [--limit K] [--seed S] [--ends]`.
+/// The subcommand `orders [--sessions N] [--max-local M] [--slot-groups G] [--limit K] [--seed S] [--ends]
+/// [--hints]`.
 fn orders_command<'a>(alloc: Global) -> Result<Command<'a>, AllocError> {
     let limit = Arg::new(alloc, "limit")
         .long("limit")
@@ -155,13 +158,15 @@ fn orders_command<'a>(alloc: Global) -> Result<Command<'a>, AllocError> {
     with_config(alloc, orders, DEFAULT_SESSIONS_SHOWN)?
         .arg(limit)?
         .arg(seed)?
-        .arg(ends)
+        .arg(ends)?
+        .arg(hints_argument(alloc))
 }
 
-/// The command line: `run [--sessions N] [--max-local M] [--slot-groups G] [--echo] [--json] [--graph LANGUAGE] [--sql] [--keep]
-/// [--reuse] [--summary] [--fail-on WHAT]`, `orders [--sessions N] [--max-local M] [--slot-groups G] [--limit K] [--seed S]
-/// [--ends]`, `sql [--schema FILE] [--fail-on KIND] [--single-transaction]`, `shell [--sessions N] [--max-local M]
-/// [--slot-groups G] [--reuse]`, `modes`, `hammer --sessions N --rounds K`, or `--man`. The texts of its help are those of
+/// The command line: `run [--sessions N] [--max-local M] [--slot-groups G] [--echo] [--json] [--graph
+/// LANGUAGE] [--sql] [--keep] [--reuse] [--summary] [--fail-on WHAT] [--hints]`, `orders [--sessions N]
+/// [--max-local M] [--slot-groups G] [--limit K] [--seed S] [--ends] [--hints]`, `sql [--schema FILE]
+/// [--fail-on KIND] [--single-transaction]`, `shell [--sessions N] [--max-local M] [--slot-groups G]
+/// [--reuse]`, `modes`, `hammer --sessions N --rounds K`, or `--man`. The texts of its help are those of
 /// `helps`.
 fn command<'a>(alloc: Global, helps: &'a Helps) -> Result<Command<'a>, AllocError> {
     let run = Command::new(alloc, "run")
@@ -201,8 +206,9 @@ fn command<'a>(alloc: Global, helps: &'a Helps) -> Result<Command<'a>, AllocErro
 pub enum Task {
     /// To run the script on standard input, with these options.
     Run(Config, RunOptions),
-    /// To run the lines of the script on standard input in every order.
-    Orders(Config, OrdersOptions),
+    /// To run the lines of the script on standard input in every order, and whether a bad line has a hint
+    /// behind it.
+    Orders(Config, OrdersOptions, bool),
     /// To say what the SQL statements on standard input lock.
     Sql,
     /// To run lines as they are typed, and whether the numbers of closed sessions are given out again.
@@ -299,7 +305,11 @@ fn task_of<'a>(alloc: Global, words: &'a [String]) -> Result<Task, Error>
             Ok(Task::Shell(config_of(shell), shell.get_flag(REUSE)))
         }
         Some((name, orders)) if name == ORDERS => {
-            Ok(Task::Orders(config_of(orders), options_of(orders)))
+            Ok(Task::Orders(
+                config_of(orders),
+                options_of(orders),
+                orders.get_flag(HINTS),
+            ))
         }
         Some((_, run)) => Ok(Task::Run(config_of(run), run_options_of(run))),
         None => Ok(Task::Man),

@@ -1,4 +1,4 @@
-//! What is said of a bad line, at a shell and where orders are run.
+//! What is said of a bad line at a shell, and behind the line's fault where hints are wanted.
 
 use crate::forms::{SHELL_LINES, push_forms};
 use crate::mode_help::mode_called;
@@ -44,6 +44,19 @@ pub struct Reader<'a> {
     pub objects: &'a [NamedObject],
     /// Whether the wrong line is one of a shell, which has lines of its own.
     pub is_in_shell: bool,
+}
+
+/// What may help with `line`, which has the defect `what`, in lines of its own: what a shell would say of it
+/// to `reader`.
+pub fn hint_text(
+    alloc: Global,
+    line: &str,
+    what: Defect,
+    reader: Reader,
+) -> Result<String, AllocError> {
+    let mut text = String::from_str(alloc, "hint: ")?;
+    push_correction(alloc, &mut text, line, what, reader)?;
+    Ok(text)
 }
 
 /// Adds to `text` what is wrong with `line`: the defect `what`, the word that has it, and the nearest good word for `reader`, or what the word may

@@ -2,6 +2,7 @@
 #![tactic(auto)]
 
 mod arguments;
+mod failures;
 mod forms;
 mod helps;
 mod hints;

@@ -10,6 +10,9 @@ pub struct RunOptions {
     /// Whether the run lists at its end who waited, for which lock, and who was in the way.
     pub summary: bool,
     pub fail_on: FailOn,
+    /// Whether a bad line has a hint behind it, which word of it is bad and what may be meant. For somebody
+    /// at a terminal it has one in any case.
+    pub hints: bool,
 }
 
 impl RunOptions {

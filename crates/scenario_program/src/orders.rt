@@ -4,7 +4,7 @@ ghost use Rattle.std.specs.Prelude.{◌≡◌};
 ghost use Rattle.lock_manager.specs.Crews.{SeatsAre};
 ghost use Rattle.scenario.specs.Sizes.{IsForManager};
 
-use crate::hints::{Reader, push_correction};
+use crate::hints::{Reader, hint_text};
 use lock_manager::{Blocked, Config, OwnSession, Refusal, USUAL_SESSIONS};
 use lock_script::{Caller, Command, Fault, Name, Names, parse};
 use lock_table::PartTable;
@@ -177,16 +177,14 @@ fn news_of(said: &Said) -> News {
     }
 }
 
-/// The text on the bad line `bad`: its number, and what is wrong with it, as a shell says it.
-pub fn bad_line_text(alloc: Global, bad: &BadLine) -> Result<String, AllocError> {
+/// What may help with the bad line `bad`, in lines of its own.
+pub fn bad_line_hint(alloc: Global, bad: &BadLine) -> Result<String, AllocError> {
     let reader = Reader {
         names: bad.open.as_slice(),
         objects: &[],
         is_in_shell: false,
     };
-    let mut text = format!(in alloc; "line {}: ", bad.number)?;
-    push_correction(alloc, &mut text, bad.text.as_str(), bad.what, reader)?;
-    Ok(text)
+    hint_text(alloc, bad.text.as_str(), bad.what, reader)
 }
 
 /// The text on a session that was refused as `refused` says, where `config` says how many may be opened.

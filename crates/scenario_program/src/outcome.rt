@@ -1,9 +1,10 @@
 //! What a run came to, which the program prints after it.
+ghost use Rattle.std.specs.Prelude.{◌≡◌, IfSome, string_bytes};
 
-use crate::hints::{Reader, push_correction};
+use crate::hints::{Reader, hint_text};
 use crate::options::FailOn;
 use lock_manager::Blocked;
-use lock_script::{Defect, Fault, Name, NamedObject, Names};
+use lock_script::{Fault, Name, NamedObject, Names};
 use scenario::{Listener, Output, Pen, Picture, Row, Said, Summary};
 use std::alloc::{AllocError, Global};
 use std::io::Write;
@@ -48,32 +49,34 @@ impl Outcome {
             || (fail_on.stuck && self.waiting > 0)
     }
 
-    /// What is said of the bad line that ended the script, where `fault` is a bad line: its number, its defect, the word that has the defect, and the
-    /// nearest good word. For SQL that can't be played it is the reason that the listener heard in place of the line. There is no text for a line
-    /// that isn't text, for another fault, and where there is no memory for it.
-    pub fn correction(&self, fault: &Fault) -> Option<String> {
+    /// What is told in place of the line of `fault`, which ended the script: the reason that the listener
+    /// heard why SQL can't be played. There is none of another fault, and where there is no memory for it.
+    pub fn told(&self, fault: &Fault) -> Option<String>
+        ensures { IfSome result (λ told. string_bytes told ≡ string_bytes self.now.text) }
+    {
         match fault {
             Fault::BadLine { line, .. } if *line == self.number && is_told(&self.text) => {
                 self.text.clone().ok()
-            }
-            Fault::BadLine { line, what } if *line == self.number => {
-                self.correction_of(*what).ok()
             }
             _ => None,
         }
     }
 
-    /// What is said of the line that was read last, where it has the defect `what`.
-    fn correction_of(&self, what: Defect) -> Result<String, AllocError> {
+    /// What may help with the bad line that ended the script, where `fault` is one: the word that is bad, and
+    /// the nearest good word. There is none for a line that isn't text, for another fault, and where there is
+    /// no memory for it.
+    pub fn hint(&self, fault: &Fault) -> Option<String> {
         let reader = Reader {
             names: self.open.as_slice(),
             objects: self.objects.as_slice(),
             is_in_shell: false,
         };
-        let number = self.number;
-        let mut text = format!(in self.alloc; "line {number}: ")?;
-        push_correction(self.alloc, &mut text, self.text.as_str(), what, reader)?;
-        Ok(text)
+        match fault {
+            Fault::BadLine { line, what } if *line == self.number && !is_told(&self.text) => {
+                hint_text(self.alloc, self.text.as_str(), *what, reader).ok()
+            }
+            _ => None,
+        }
     }
 
     /// Hears of a line that was read: keeps its `text` and its `number`.

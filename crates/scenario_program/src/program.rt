@@ -4,18 +4,19 @@ ghost use Rattle.lock_hammer.specs.Sizes.{IsPlayable};
 ghost use Rattle.scenario.specs.Sizes.{IsForManager};
 
 use crate::arguments::{NoRun, Task, parse_arguments};
+use crate::failures::{Failure, fail};
 use crate::man::man_page;
 use crate::modes::print_modes;
 use crate::options::RunOptions;
-use crate::orders::{OnManagers, bad_line_text, refused_session_text};
+use crate::orders::OnManagers;
 use crate::outcome::{Outcome, Witness};
 use crate::shell::{ShellOptions, run_shell};
 use crate::timelines::draw_heard_script;
 use lock_hammer::{Hammer, OpenGate, ProgressLine, run_hammer, run_watched_hammer};
 use lock_manager::Config;
-use lock_script::{Defect, Fault};
+use lock_script::Fault;
 use scenario::{Output, Summary, run_in_turn};
-use script_orders::{OrdersFault, OrdersLine, OrdersOptions, run_orders};
+use script_orders::{OrdersLine, OrdersOptions, run_orders};
 use sql_report::run_sql;
 use std::alloc::Global;
 use std::io::{self, BufWriter, Read, Write};
@@ -47,45 +48,6 @@ pub struct Errors<'a, E> {
     pub writer: &'a mut E,
     /// Whether a person reads what is written at a terminal.
     pub is_terminal: bool,
-}
-
-/// What ends the program before its work is done.
-#[derive(Drop)]
-struct Failure {
-    fault: Fault,
-    /// The text on the failure, where there is more to say than the fault's own text.
-    text: Option<String>,
-}
-
-impl From<Fault> for Failure {
-    fn from(fault: Fault) -> Self {
-        Failure { fault, text: None }
-    }
-}
-
-impl Failure {
-    /// What `ended` the orders of a script, which were run against lock managers of the size `config`, as a failure of the program.
-    fn of_orders(alloc: Global, ended: OrdersFault, config: Config) -> Self {
-        match ended {
-            OrdersFault::Other(fault) => Failure::from(fault),
-            OrdersFault::Session(refused) => {
-                let fault = Fault::BadLine {
-                    line: refused.number,
-                    what: Defect::NoSuchSession,
-                };
-                let text = refused_session_text(alloc, refused, config).ok();
-                Failure { fault, text }
-            }
-            OrdersFault::Line(bad) => {
-                let fault = Fault::BadLine {
-                    line: bad.number,
-                    what: bad.what,
-                };
-                let text = bad_line_text(alloc, &bad).ok();
-                Failure { fault, text }
-            }
-        }
-    }
 }
 
 /// Runs the program, and answers its status: 0, 4 where a run or an SQL statement fails by `words`, 3 for a bad line of the script or a bad
@@ -138,8 +100,8 @@ fn run_words<
         }
         Ok(Task::Sql) => return Ok(run_statements(rt, words, input, output, errors)),
         Ok(Task::Shell(config, reuse)) => run_typed(rt, config, reuse, input, output)?,
-        Ok(Task::Orders(config, options)) => {
-            run_all_orders(rt, config, options, input, output, errors)?
+        Ok(Task::Orders(config, options, hints)) => {
+            run_all_orders(rt, config, options, hints, input, output, errors)?
         }
         Err(NoRun::Text(text)) => print_text(output, text.as_str())?,
         Err(NoRun::Refused(text)) => {
@@ -188,8 +150,8 @@ fn run_input<H: AllocGlobal + Wait, R: Read + Drop, W: Write + Drop, E: Write>(
         Ok(()) if outcome.fails(options.fail_on) => Ok(FAILED),
         Ok(()) => Ok(SUCCESS),
         Err(fault) => {
-            let text = outcome.correction(&fault);
-            Err(Failure { fault, text })
+            let hints = options.hints || errors.is_terminal;
+            Err(Failure::of_run(fault, &outcome, hints))
         }
     }
 }
@@ -213,11 +175,12 @@ fn run_hammers<H: AllocGlobal + Clock + Threads + Wait + Sync, W: Write + Drop, 
 }
 
 /// Runs the lines of `input` in every order, as `options` say, and shows by `errors` to somebody at a terminal how many
-/// were run.
+/// were run. A bad line has a hint behind it where `hints`, and for somebody at a terminal.
 fn run_all_orders<H: AllocGlobal + Wait, R: Read + Drop, W: Write + Drop, E: Write>(
     rt: &H,
     config: Config,
     options: OrdersOptions,
+    hints: bool,
     input: Source<R>,
     output: W,
     errors: &mut Errors<E>,
@@ -229,6 +192,7 @@ fn run_all_orders<H: AllocGlobal + Wait, R: Read + Drop, W: Write + Drop, E: Wri
     if input.is_terminal {
         say_input_is_typed(errors.writer, TYPED_SCRIPT);
     }
+    let hints = hints || errors.is_terminal;
     let mut line = OrdersLine {
         is_terminal: errors.is_terminal,
         writer: errors.writer,
@@ -236,7 +200,7 @@ fn run_all_orders<H: AllocGlobal + Wait, R: Read + Drop, W: Write + Drop, E: Wri
     let player = OnManagers { config };
     match run_orders(rt, &player, input.reader, output, &mut line, options) {
         Ok(()) => Ok(()),
-        Err(fault) => Err(Failure::of_orders(alloc, fault, config)),
+        Err(fault) => Err(Failure::of_orders(alloc, fault, config, hints)),
     }
 }
 
@@ -313,16 +277,4 @@ fn refuse_words<E: Write>(errors: &mut E) -> u8
         "error: invalid UTF-8 was detected in one or more arguments"
     );
     REFUSED_WORDS
-}
-
-/// Says by `errors` what ended the program, `failure`, and answers the status for that.
-fn fail<E: Write>(errors: &mut E, failure: &Failure) -> u8
-    ensures { result ≤ 3 }
-{
-    // Where the errors can't be written, the status says it alone.
-    let _ = match &failure.text {
-        Some(text) => write!(errors, "{text}"),
-        None => writeln!(errors, "{}", failure.fault),
-    };
-    failure.fault.status()
 }

@@ -35,7 +35,19 @@ pub fn reuse_argument<'a>(alloc: Global) -> Arg<'a> {
         .action(ArgAction::SetTrue)
 }
 
-/// The subcommand `run` with the options of how its script is run, what is listed at its end, and what it fails for.
+/// The name of the option by which a bad line has a hint behind it.
+pub const HINTS: &str = "hints";
+
+/// The argument `--hints` of a command, by which a bad line has a hint behind it. Takes memory by `alloc`.
+pub fn hints_argument<'a>(alloc: Global) -> Arg<'a> {
+    Arg::new(alloc, HINTS)
+        .long(HINTS)
+        .help("Say behind a bad line which word is wrong, and the nearest good one")
+        .action(ArgAction::SetTrue)
+}
+
+/// The subcommand `run` with the options of how its script is run, what is listed at its end, what it fails
+/// for, and what is said of a bad line.
 pub fn with_manners<'a>(alloc: Global, run: Command<'a>) -> Result<Command<'a>, AllocError> {
     let sql = Arg::new(alloc, "sql")
         .long("sql")
@@ -59,7 +71,8 @@ pub fn with_manners<'a>(alloc: Global, run: Command<'a>) -> Result<Command<'a>, 
         .arg(keep)?
         .arg(reuse_argument(alloc))?
         .arg(summary)?
-        .arg(fail_on)
+        .arg(fail_on)?
+        .arg(hints_argument(alloc))
 }
 
 /// The options of a run that `words` ask for.
@@ -73,6 +86,7 @@ pub fn run_options_of(words: &ArgMatches) -> RunOptions {
         },
         summary: words.get_flag("summary"),
         fail_on: FailOn::named(words.get_strs("fail-on").unwrap_or(&[])),
+        hints: words.get_flag(HINTS),
     }
 }
 

@@ -32,6 +32,7 @@ pub fn draw_script<H: AllocGlobal + Wait, R: Read + Drop, W: Write + Drop>(
         turns: Turns::PLAIN,
         summary: false,
         fail_on: FailOn::named(&[]),
+        hints: false,
     };
     draw_heard_script(rt, reader, writer, config, options, &mut outcome)
 }

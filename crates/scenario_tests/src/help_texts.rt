@@ -47,6 +47,7 @@ Options:
       --reuse             Give the numbers of closed sessions to new ones, the lowest first
       --summary           Tell at the end who waited, for what and behind whom
       --fail-on <WHAT>    End with status 4 on these, with commas between [possible values: waits, refused, stuck]
+      --hints             Say behind a bad line which word is wrong, and the nearest good one
   -h, --help              Print help
 
 Lines of a script, after lock_scenario run < FILE:

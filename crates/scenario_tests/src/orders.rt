@@ -15,7 +15,7 @@ use std::thread::Threads;
 use std::time::Clock;
 
 /// Words, and a run of the program on them.
-static RUNS: [(&str, Run<'static>); 18] = [
+static RUNS: [(&str, Run<'static>); 20] = [
     ("lock_scenario orders", (UPGRADE, false, 0, UPGRADED, "")),
     (
         "lock_scenario orders",
@@ -38,7 +38,7 @@ static RUNS: [(&str, Run<'static>); 18] = [
             false,
             3,
             "",
-            "line 4: no such session \"b\"; open sessions: a\n",
+            "line 4: no such session\n",
         ),
     ),
     (
@@ -74,7 +74,7 @@ static RUNS: [(&str, Run<'static>); 18] = [
             false,
             3,
             "",
-            "line 3: no such session \"bret\", perhaps \"bert\"\n",
+            "line 3: no such session\n",
         ),
     ),
     (
@@ -84,7 +84,27 @@ static RUNS: [(&str, Run<'static>); 18] = [
             false,
             3,
             "",
-            "line 2: unknown command \"look\", perhaps \"lock\"\n",
+            "line 2: unknown command\n",
+        ),
+    ),
+    (
+        "lock_scenario orders --hints",
+        (
+            "session a 5\nlook a 5/1 ShareLock\n",
+            false,
+            3,
+            "",
+            "line 2: unknown command\nhint: unknown command \"look\", perhaps \"lock\"\n",
+        ),
+    ),
+    (
+        "lock_scenario orders --hints",
+        (
+            "session a 5\nsession b 5\nclose b\ncancel a b\n",
+            false,
+            3,
+            "",
+            "line 4: no such session\nhint: no such session \"b\"; open sessions: a\n",
         ),
     ),
     (
@@ -122,7 +142,7 @@ static RUNS: [(&str, Run<'static>); 18] = [
             false,
             3,
             "",
-            "line 5: bad mode \"Share\", perhaps \"ShareLock\"\n",
+            "line 5: bad mode\n",
         ),
     ),
     (
@@ -153,7 +173,7 @@ static RUNS: [(&str, Run<'static>); 18] = [
             false,
             3,
             "",
-            "line 6: bad mode \"Share\", perhaps \"ShareLock\"\n",
+            "line 6: bad mode\n",
         ),
     ),
     (

@@ -31,7 +31,7 @@ keep writes waiting: 1, by line 1
 ";
 
 /// Words with a run of the program on them.
-pub static RUNS: [(&str, Run<'static>); 27] = [
+pub static RUNS: [(&str, Run<'static>); 30] = [
     ("lock_scenario modes", ("frob", false, 0, MODES, "")),
     ("lock_scenario modes --help", ("", false, 0, MODES_HELP, "")),
     (RUN, ("session a 5\n", false, 0, OPENED, "")),
@@ -119,8 +119,34 @@ pub static RUNS: [(&str, Run<'static>); 27] = [
             false,
             3,
             OPENED,
-            "line 2: unknown command \"frob\"; lock_scenario run --help lists the commands\n",
+            "line 2: unknown command\n",
         ),
+    ),
+    // a hint stands behind the line of the fault, and is no part of it
+    (
+        "lock_scenario run --hints",
+        (
+            "session a 5\ntry a 5/1 ShareLocks\n",
+            false,
+            3,
+            OPENED,
+            "line 2: bad mode\nhint: bad mode \"ShareLocks\", perhaps \"ShareLock\"\n",
+        ),
+    ),
+    (
+        "lock_scenario run --hints",
+        (
+            "session a 5\ntry a\n",
+            false,
+            3,
+            OPENED,
+            "line 2: wrong number of words\nhint: wrong number of words; the form is\n\
+             \u{20} try NAME TAG MODE [session]     take a lock, if nothing is in the way\n",
+        ),
+    ),
+    (
+        "lock_scenario run --hints",
+        ("session a 5\nses", true, 1, OPENED, "read failed\n"),
     ),
     (RUN, ("session a 5\nses", true, 1, OPENED, "read failed\n")),
     (
@@ -264,7 +290,7 @@ pub static SHOWN: [(&str, Run<'static>); 4] = [
             false,
             3,
             "> session a 5\na: session 0 database 5\n> frob\n",
-            "line 2: unknown command \"frob\"; lock_scenario run --help lists the commands\n",
+            "line 2: unknown command\n",
         ),
     ),
     (
@@ -320,7 +346,7 @@ pub static UNREAD: [(ErrorKind, Run<'static>); 2] = [
 ];
 
 /// Words with a run of the program on them, where the script is typed and the errors are read at a terminal.
-pub static TYPED: [(&str, Run<'static>); 5] = [
+pub static TYPED: [(&str, Run<'static>); 7] = [
     // A hammer that is over before its line's time has come.
     (
         "lock_scenario hammer --sessions 1 --rounds 1",
@@ -333,6 +359,29 @@ pub static TYPED: [(&str, Run<'static>); 5] = [
         ),
     ),
     (RUN, ("session a 5\n", false, 0, OPENED, INVITATION)),
+    // who reads the errors at a terminal has a hint without a word
+    (
+        RUN,
+        (
+            "session a 5\ncommit b\n",
+            false,
+            3,
+            OPENED,
+            "reading a script from the terminal, to its end (Ctrl-D); run --help shows its lines\n\
+             line 2: no such session\nhint: no such session \"b\"; open sessions: a\n",
+        ),
+    ),
+    (
+        "lock_scenario orders",
+        (
+            "session a 5\ncommit b\n",
+            false,
+            3,
+            "",
+            "reading a script from the terminal, to its end (Ctrl-D); run --help shows its lines\n\
+             \r0 orders\u{1b}[K\r\u{1b}[Kline 2: no such session\nhint: no such session \"b\"; open sessions: a\n",
+        ),
+    ),
     (
         "lock_scenario sql",
         (

@@ -38,7 +38,7 @@ pub fn words_of(alloc: Global, line: &str) -> Result<Vec<String>, Fail> {
 }
 
 /// Words, and how many sessions and local entries or rounds they ask for, where they aren't refused.
-static WORDS: [(&str, Option<(u32, u32)>); 57] = [
+static WORDS: [(&str, Option<(u32, u32)>); 61] = [
     ("lock_scenario run", Some((8, 1024))),
     ("lock_scenario run --sessions 1", Some((1, 1024))),
     ("lock_scenario run --sessions=64", Some((64, 1024))),
@@ -86,6 +86,8 @@ static WORDS: [(&str, Option<(u32, u32)>); 57] = [
     ("lock_scenario orders --sql", None),
     ("lock_scenario shell --sql", None),
     ("lock_scenario run --reuse=yes", None),
+    ("lock_scenario run --hints --sessions 2", Some((2, 1024))),
+    ("lock_scenario run --hints more", None),
     ("lock_scenario orders --reuse", None),
     ("lock_scenario --man", Some((0, 0))),
     ("lock_scenario run --man", None),
@@ -102,6 +104,8 @@ static WORDS: [(&str, Option<(u32, u32)>); 57] = [
     ("lock_scenario orders --seed x", None),
     ("lock_scenario orders --ends", Some((8, 10_000))),
     ("lock_scenario orders --ends more", None),
+    ("lock_scenario orders --hints", Some((8, 10_000))),
+    ("lock_scenario shell --hints", None),
     ("lock_scenario shell --max-local 3", Some((64, 3))),
     ("lock_scenario shell more", None),
     ("lock_scenario shell --reuse --sessions 1", Some((1, 1024))),
@@ -126,7 +130,7 @@ fn reads_its_own_words(rt: HostRuntime) -> Result<(), Fail> {
             Ok(Task::Run(limits, _)) => Some((limits.sessions, limits.max_local)),
             Ok(Task::Hammer(hammer)) => Some((hammer.sessions, hammer.rounds)),
             Err(NoRun::Refused(_)) => None,
-            Ok(Task::Orders(limits, options)) => Some((limits.sessions, options.limit)),
+            Ok(Task::Orders(limits, options, _)) => Some((limits.sessions, options.limit)),
             Ok(Task::Shell(limits, _)) => Some((limits.sessions, limits.max_local)),
             // The conflict table, the man page and SQL, which have no limits.
             Ok(Task::Modes) | Ok(Task::Man) | Ok(Task::Sql) => Some((0, 0)),
