@@ -2,6 +2,7 @@
 pub mod Actions
 pub mod Numbers
 pub mod Hearing
+pub mod InTime
 pub mod InTurn
 pub mod Lent
 pub mod Lines

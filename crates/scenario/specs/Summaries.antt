@@ -1,4 +1,4 @@
-use Rattle.std.specs.Prelude.{◌≡◌, ◌⊎◌, ℕ, ◌<◌, Bool, List, [], ◌∷◌, ◌++◌, length, map, All, Some, None, slice_set}
+use Rattle.std.specs.Prelude.{◌≡◌, ◌⊎◌, ◌&&◌, ℕ, ◌<◌, nat_le, Bool, true, List, [], ◌∷◌, ◌++◌, length, map, All, Option, Some, None, slice_set}
 use Rattle.std.specs.List.{HoldsAt}
 use Rattle.modes_core.specs.declared.modes.Mode.{Mode}
 use Rattle.wait_queue.specs.declared.queues.Blocker.{Blocker}
@@ -6,6 +6,7 @@ use Rattle.modes_core.specs.declared.refusals.How.{How}
 use Rattle.lock_manager.specs.declared.blocked.Blocked.{Blocked}
 use Rattle.lock_script.specs.declared.names.Names.{Names}
 use Rattle.scenario.specs.declared.summary.Obstacle.{Obstacle}
+use Rattle.scenario.specs.declared.summary.WaitEnd.{WaitEnd}
 use Rattle.scenario.specs.declared.summary.WaitRow.{WaitRow}
 use Rattle.scenario.specs.Texts.{name_in}
 
@@ -40,3 +41,12 @@ EndsRow name line granted old new =
     (All (λ row. IsOpen name row → ⊥) old × (new ≡ old))
     ⊎ ((place : ℕ) × (place < length old) × HoldsAt (IsOpen name) old place
     × HoldsAt (λ row. new ≡ slice_set old place (record row { ended = Some (record { line = line; granted = granted }) })) old place)
+
+-- whether a wait that began at this line has ended at none before it
+abbrev pub ends_behind : ℕ → Option WaitEnd → Bool
+ends_behind from None = true
+ends_behind from (Some end) = nat_le from end.line
+
+-- whether the row's wait began at a line that was read, the last one or one before, and has ended at none before that
+abbrev pub is_in_time : ℕ → WaitRow → Bool
+is_in_time read row = nat_le row.from read && ends_behind row.from row.ended

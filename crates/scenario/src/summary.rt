@@ -1,8 +1,8 @@
 //! Who waited in a run, from which line to which, for what, and behind whom.
 
-ghost use Rattle.std.specs.Prelude.{◌≡◌, ℕ, ◌<◌, [], All, length, map, IfNone, IfOk, IfSome, OnErr, OnOk, Some, false, slice_set, true};
-ghost use Rattle.std.specs.List.{HoldsAt};
-ghost use Rattle.scenario.specs.Summaries.{BeginsRow, EndsRow, IsOpen, obstacle_in, shown_obstacle};
+ghost use Rattle.std.specs.Prelude.{◌≡◌, ℕ, ◌<◌, ◌≤◌, [], All, length, map, max, IfNone, IfOk, IfSome, OnErr, OnOk, Some, false, slice_set, true};
+ghost use Rattle.std.specs.List.{HoldsAt, list_all};
+ghost use Rattle.scenario.specs.Summaries.{BeginsRow, EndsRow, IsOpen, is_in_time, obstacle_in, shown_obstacle};
 
 use crate::answers::Said;
 use crate::text::{ObjectText, name_of};
@@ -22,7 +22,7 @@ pub struct Obstacle {
 /// How a wait of a run ended, and after which line.
 #[derive(Clone, Copy, Debug)]
 pub struct WaitEnd {
-    /// The number of the script's line after which the wait ended.
+    /// The number of the script's line that was read last when the wait ended.
     pub line: u32,
     /// Whether the wait ended with the lock granted. It ended with a request to stop otherwise.
     pub granted: bool,
@@ -42,13 +42,18 @@ pub struct WaitRow {
     pub behind: Vec<Obstacle>,
 }
 
-/// The waits of a run, in the order in which they began.
+/// The waits of a run, in the order in which they began. None ends at a line before the one that it began at.
 #[derive(Drop)]
 pub struct Summary {
     alloc: Global,
     /// The number of the script's line that is run.
     pub line: u32,
+    /// The number of the script's line that was read last. A line that was kept is run when later ones were
+    /// read.
+    pub read: u32,
     pub waits: Vec<WaitRow>,
+    ghost was_read: { line ≤ read },
+    ghost in_time: { list_all (is_in_time read) waits.items ≡ true },
 }
 
 impl Summary {
@@ -59,15 +64,28 @@ impl Summary {
         Summary {
             alloc,
             line: 0,
+            read: 0,
             waits: Vec::new(alloc),
         }
     }
 
-    /// Notes that the line of the number `number` is run from now on.
-    pub fn begin_line(&mut self, number: u32)
-        ensures line { self.new.line ≡ number }
+    /// Notes that the line of the number `number` is read, if it is none that was read before.
+    pub fn read_line(&mut self, number: u32)
+        ensures line { self.new.line ≡ self.old.line }
+        ensures read { self.new.read ≡ max self.old.read number }
         ensures waits { self.new.waits ≡ self.old.waits }
     {
+        self.read = self.read.max(number);
+    }
+
+    /// Notes that the line of the number `number` is run from now on. It is read now, or was kept when it was
+    /// read.
+    pub fn begin_line(&mut self, number: u32)
+        ensures line { self.new.line ≡ number }
+        ensures read { self.new.read ≡ max self.old.read number }
+        ensures waits { self.new.waits ≡ self.old.waits }
+    {
+        self.read_line(number);
         self.line = number;
     }
 
@@ -76,6 +94,7 @@ impl Summary {
         ensures begun { OnOk result (BeginsRow names.now self.old.line blocked.now self.old.waits.items self.new.waits.items) }
         ensures refused { OnErr result (self.new.waits.items ≡ self.old.waits.items) }
         ensures line { self.new.line ≡ self.old.line }
+        ensures read { self.new.read ≡ self.old.read }
     {
         let behind = obstacles(self.alloc, names, blocked.blockers.as_slice())?;
         self.waits.push(WaitRow {
@@ -89,12 +108,14 @@ impl Summary {
         Ok(())
     }
 
-    /// Notes that the wait of the session `name` ends at the line that is run: the lock was granted where `granted`, or else the session gave up.
+    /// Notes that the wait of the session `name` ends at the line that was read last: the lock was granted
+    /// where `granted`, or else the session gave up.
     fn end_wait(&mut self, name: &Name, granted: bool)
-        ensures ended { EndsRow name.now.bytes self.old.line granted self.old.waits.items self.new.waits.items }
+        ensures ended { EndsRow name.now.bytes self.old.read granted self.old.waits.items self.new.waits.items }
         ensures line { self.new.line ≡ self.old.line }
+        ensures read { self.new.read ≡ self.old.read }
     {
-        let line = self.line;
+        let line = self.read;
         if let Some(place) = place_of_open(self.waits.as_slice(), name) {
             end_row(self.waits.as_mut_slice(), place, WaitEnd { line, granted });
         }
@@ -103,10 +124,11 @@ impl Summary {
     /// Hears of `said`, what the session `name` was answered: where that ends its wait, the wait's row ends.
     pub fn hear(&mut self, name: &Name, said: &Said)
         ensures line { self.new.line ≡ self.old.line }
+        ensures read { self.new.read ≡ self.old.read }
         ensures granted { said.now ≡ Said.GrantedAfterWaiting →
-            EndsRow name.now.bytes self.old.line true self.old.waits.items self.new.waits.items }
+            EndsRow name.now.bytes self.old.read true self.old.waits.items self.new.waits.items }
         ensures cancelled { said.now ≡ Said.Cancelled →
-            EndsRow name.now.bytes self.old.line false self.old.waits.items self.new.waits.items }
+            EndsRow name.now.bytes self.old.read false self.old.waits.items self.new.waits.items }
     {
         match said {
             Said::GrantedAfterWaiting => self.end_wait(name, true),

@@ -159,6 +159,9 @@ impl<W: Write + Drop> Listener for Witness<'_, W> {
         self.outcome
             .read(number, text)
             .map_err(|_| Fault::NoMemory)?;
+        if let Some(summary) = &mut self.summary {
+            summary.read_line(number);
+        }
         self.output.keep_line(number, text, more)
     }
 

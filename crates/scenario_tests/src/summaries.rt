@@ -126,6 +126,28 @@ fn tells_who_is_left_once_where_a_script_speaks_sql(rt: HostRuntime) -> Result<(
     Ok(())
 }
 
+/// A script in which kept lines run when later ones were read: a reads, b alters behind it, and c reads
+/// behind b.
+const LATE: &str =
+    "session a 5\nsession b 5\nsession c 5\nlock a 5/1 AccessShareLock\nlock b 5/1 AccessExclusiveLock\ncommit b\n\
+    lock c 5/1 AccessShareLock\ncommit a\n";
+
+#[test]
+fn a_wait_ends_at_the_line_that_was_read_last(rt: HostRuntime) -> Result<(), Fail> {
+    let told = printed(&rt, "lock_scenario run --keep --summary", LATE)?;
+    let end =
+        "b waited from line 5 to line 8 for AccessExclusiveLock on 5/1: a holds AccessShareLock\n\
+        c waited from line 7 to line 8 for AccessShareLock on 5/1: b stands before with AccessExclusiveLock\n";
+    assert!(rt; told.as_str().ends_with(end), "{told}");
+    let told = printed(&rt, "lock_scenario run --keep --graph gantt", LATE)?;
+    let drawn =
+        "gantt\n  dateFormat X\n  axisFormat %s\n  section a\n  5/1 AccessShareLock :done, 4, 7\n  section b\n\
+        \u{20} waits for 5/1 AccessExclusiveLock behind a :crit, 5, 7\n  5/1 AccessExclusiveLock :done, 7, 8\n  section c\n\
+        \u{20} waits for 5/1 AccessShareLock behind b :crit, 6, 8\n  5/1 AccessShareLock :done, 8, 9\n";
+    assert_eq!(rt; told.as_str(), drawn);
+    Ok(())
+}
+
 /// The waits of a script as JSON, and who is left.
 const OBJECTS: &str = "\
 {\"behind\":[{\"how\":\"held\",\"mode\":\"ShareLock\",\"session\":\"a\"}],\"ended\":\"granted\",\"from\":5,\"mode\":\"ExclusiveLock\",\"name\":\"t\",\"tag\":\"5/1\",\"to\":6,\"waited\":\"b\"}
