@@ -180,7 +180,7 @@ impl KeptLines {
     }
 
     /// Whether lines of the session named `session` are kept.
-    fn has_lines_of(&self, session: &Name) -> bool {
+    pub fn has_lines_of(&self, session: &Name) -> bool {
         match place_of(self.queues.as_slice(), session) {
             Some(place) => !self.queues[place].lines.is_empty(),
             None => false,

@@ -1,5 +1,5 @@
 //! The lines of a script.
-ghost use Rattle.std.specs.Prelude.{◌≡◌, ◌+◌, ◌≤◌, ℕ, [], ◌∷◌, length, IfOk, IfErr, OnOk, IfSome, IfNone, MatchOption, Some, None, true, false, if◌then◌else◌, is_some};
+ghost use Rattle.std.specs.Prelude.{◌≡◌, ◌+◌, ◌≤◌, ℕ, [], ◌∷◌, length, IfOk, IfErr, OnOk, IfSome, IfNone, MatchOption, Some, None, Err, true, false, if◌then◌else◌, is_some};
 ghost use Rattle.std.specs.List.{list_all};
 ghost use Rattle.std.specs.Io.KnownBytes.{prepend_known};
 ghost use Rattle.lock_script.specs.declared.faults.Fault.TheVariants.{ReadFailed};
@@ -70,8 +70,9 @@ impl<R: Read> LineReader<R> {
         }
     }
 
-    /// The next line of the script, or `None` at the end of the input. What comes after the last line feed is a line
-    /// only if it is not empty. After an error nothing more is to be read.
+    /// The next line of the script, or `None` at the end of the input. What comes after the last line feed is
+    /// a line only if it is not empty. A line that isn't ASCII text is read to its end and counted; after
+    /// another error nothing more is to be read.
     pub fn next_line(&mut self) -> Result<Option<Line>, Fault>
         ensures reads { IfSome self.old.source.left (λ unread. Reads result self.old.number
             (reading_of self.old.number unread)) }
@@ -79,6 +80,10 @@ impl<R: Read> LineReader<R> {
             self.new.source.left ≡ Some (after_line unread))) }
         ensures number { IfOk result (λ line.
             self.new.number ≡ self.old.number + (if is_some line then 1 else 0)) }
+        ensures counted { result ≡ Err (Fault.BadLine (self.old.number + 1) Defect.NotAsciiText) →
+            self.new.number ≡ self.old.number + 1 }
+        ensures passed_over { result ≡ Err (Fault.BadLine (self.old.number + 1) Defect.NotAsciiText) →
+            IfSome self.old.source.left (λ unread. self.new.source.left ≡ Some (after_line unread)) }
     {
         let Some(first) = self.source.next_byte()? else {
             return Ok(None);
@@ -89,11 +94,12 @@ impl<R: Read> LineReader<R> {
         let Some(bytes) = gather(&mut self.source, first)? else {
             return Err(bad_line(self.number, Defect::LineTooLong));
         };
-        let Some(line) = text(bytes) else {
-            return Err(bad_line(self.number, Defect::NotAsciiText));
-        };
+        let before = self.number;
         self.number += 1;
-        Ok(Some(line))
+        match text(bytes) {
+            Some(line) => Ok(Some(line)),
+            None => Err(bad_line(before, Defect::NotAsciiText)),
+        }
     }
 
     /// Whether the next line can be had without a read from the reader: it is buffered with its line feed, it is

@@ -11,7 +11,7 @@ use crate::listener::Listener;
 use crate::run::Scene;
 use crate::runs::Keeping;
 use lock_manager::OwnSession;
-use lock_script::{Defect, Fault, KeptLines, ObjectNames, parse_object_name};
+use lock_script::{Defect, Fault, KeptLines, ObjectNames, parse_name, parse_object_name};
 use lock_table::PartTable;
 use shared_rule::Board;
 use sql_script::{Heard, SqlScript, Statements, Table, Turn, Unplayed, lines_of};
@@ -112,7 +112,18 @@ impl<T: PartTable, B: Board<T>, D: ScriptDesk<OwnSession<T, B>>, L: Listener> Sc
         self.listener.end_line()
     }
 
-    /// Plays `statements` of `line`: each of their lines is run, or kept while the session waits.
+    /// Whether the session `name` is open, or will be once lines of it were run that are in `kept`.
+    fn is_known(&self, kept: &KeptLines, name: &str) -> bool {
+        match parse_name(name) {
+            Some(name) => {
+                self.state.sessions.place_called(&name).is_some() || kept.has_lines_of(&name)
+            }
+            None => false,
+        }
+    }
+
+    /// Plays `statements` of `line`: each of their lines is run, or kept while the session waits. Nothing is
+    /// played for a session that was refused.
     fn play_statements<H: Wait>(
         &mut self,
         rt: &H,
@@ -128,8 +139,14 @@ impl<T: PartTable, B: Board<T>, D: ScriptDesk<OwnSession<T, B>>, L: Listener> Sc
             (record { sessions = self.new.state.sessions; names = self.new.state.names }) kept.new) }
         ensures manager { D.manager self.new.state.desk ≡ D.manager self.old.state.desk }
     {
-        self.name_tables(rt, alloc, line, &statements.turns)?;
         let session = statements.session.as_str();
+        if !self.is_known(kept, session) {
+            return Err(Fault::BadLine {
+                line: line.number,
+                what: Defect::NoSuchSession,
+            });
+        }
+        self.name_tables(rt, alloc, line, &statements.turns)?;
         let Ok(played) = lines_of(alloc, session, statements.turns.as_slice()) else {
             return Err(Fault::NoMemory);
         };
@@ -251,8 +268,15 @@ impl<T: PartTable, B: Board<T>, D: ScriptDesk<OwnSession<T, B>>, L: Listener> Sc
     pub(crate) fn refuse(&mut self, number: u32, unplayed: Unplayed) -> Fault
         ensures manager { D.manager self.new.state.desk ≡ D.manager self.old.state.desk }
     {
-        let Unplayed::Told(why) = unplayed else {
-            return Fault::NoMemory;
+        let why = match unplayed {
+            Unplayed::Told(why) => why,
+            Unplayed::WrongNumberOfWords => {
+                return Fault::BadLine {
+                    line: number,
+                    what: Defect::WrongNumberOfWords,
+                };
+            }
+            Unplayed::NoMemory => return Fault::NoMemory,
         };
         match self.listener.keep_line(number, why.as_str(), false) {
             Ok(()) => Fault::BadLine {

@@ -1,4 +1,4 @@
-use Rattle.std.specs.Prelude.{◌≡◌, ℕ, true, false, List, [], ◌∷◌, find, Option, None, Some, if◌then◌else◌, MatchBool, codes, string_bytes}
+use Rattle.std.specs.Prelude.{◌≡◌, ⊤, ℕ, true, false, List, [], ◌∷◌, find, Option, None, Some, if◌then◌else◌, MatchBool, codes, string_bytes}
 use Rattle.std.specs.Option.{option_and_then, option_map}
 use Rattle.std.specs.Str.{bytes_eq}
 use Rattle.modes_core.specs.declared.tags.Tag.{Tag}
@@ -6,7 +6,7 @@ use Rattle.sql_locks.specs.declared.forms.Awaits.TheVariants.{Writers}
 use Rattle.sql_script.specs.Awaited.{awaited_by}
 use Rattle.sql_script.specs.Known.{Known}
 use Rattle.sql_script.specs.Turns.{AreTurnsOf, resumed_for}
-use Rattle.sql_script.specs.Words.{before_semicolon, behind_word, first_word}
+use Rattle.sql_script.specs.Words.{before_semicolon, behind_semicolon, behind_word, first_word, is_blank}
 use Rattle.sql_script.specs.declared.lines.Heard.{Heard}
 use Rattle.sql_script.specs.declared.lines.Heard.TheVariants as heard_
 use Rattle.sql_script.specs.declared.lines.Statements.{Statements}
@@ -82,3 +82,15 @@ IsHeardAs verb.Other sessions behind heard = heard ≡ heard_.Plain
 abbrev pub IsHeardOf : Known → List ℕ → Heard → Type 0
 IsHeardOf known line heard =
     MatchBool known.in_schema (heard ≡ heard_.Schema) (IsHeardAs (verb_of (first_word line)) known.sessions (behind_word line) heard)
+
+-- Nothing stands behind what a line of this verb has to say, where it says no SQL of its own.
+abbrev pub SaysNoMore : Verb → List ℕ → Type 0
+SaysNoMore verb.Schema behind = is_blank behind ≡ true
+SaysNoMore verb.Done behind = (is_blank (behind_semicolon (first_word behind)) ≡ true) × (is_blank (behind_word behind) ≡ true)
+SaysNoMore _ behind = ⊤
+
+-- No text of a line is dropped: behind a `schema` and the `end` of one nothing stands, nor behind the name of a `done` line.
+abbrev pub DropsNoText : Known → List ℕ → Type 0
+DropsNoText known line =
+    MatchBool known.in_schema (bytes_eq (first_word line) (codes "end") ≡ true → is_blank (behind_word line) ≡ true)
+    (SaysNoMore (verb_of (first_word line)) (behind_word line))

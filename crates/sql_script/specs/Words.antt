@@ -1,6 +1,6 @@
 use Rattle.std.specs.Prelude.{ℕ, ◌==◌, Bool, List, length, take, drop, position}
 use Rattle.std.specs.Char.{is_ascii_whitespace}
-use Rattle.std.specs.List.{before_first}
+use Rattle.std.specs.List.{after_first, before_first}
 use Rattle.std.specs.Option.{unwrap_or}
 use Rattle.std.specs.Str.{trim_start}
 
@@ -25,3 +25,11 @@ is_semicolon b = b == 59
 -- a word up to a semicolon in it
 abbrev pub before_semicolon : List ℕ → List ℕ
 before_semicolon word = before_first is_semicolon word
+
+-- what comes behind the first semicolon of a word, or nothing where it has none
+abbrev pub behind_semicolon : List ℕ → List ℕ
+behind_semicolon word = after_first is_semicolon word
+
+-- whether no word stands in a text
+abbrev pub is_blank : List ℕ → Bool
+is_blank text = length (first_word text) == 0

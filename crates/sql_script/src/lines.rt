@@ -1,12 +1,13 @@
 //! The lines of a script that say SQL: those of a schema, and `do`, `work` and `done` lines.
-ghost use Rattle.std.specs.Prelude.{◌≡◌, Some, IfOk};
-ghost use Rattle.sql_script.specs.Lines.{IsHeardOf, IsPlayedAtEnd, IsToPlay, database_called, work_called};
+ghost use Rattle.std.specs.Prelude.{◌≡◌, Some, IfOk, OnOk, true};
+ghost use Rattle.sql_script.specs.Lines.{DropsNoText, IsHeardOf, IsPlayedAtEnd, IsToPlay, database_called, work_called};
+ghost use Rattle.sql_script.specs.Words.{is_blank};
 ghost use Rattle.sql_script.specs.Turns.{AreTurnsOf};
 
 use crate::faults::{ScriptDefect, ScriptFault};
 use crate::script::SqlScript;
 use crate::turns::Turn;
-use crate::verbs::{Verb, before_semicolon, cut_word, verb_of};
+use crate::verbs::{Verb, cut_at_semicolon, cut_word, is_blank, verb_of};
 use std::alloc::{AllocError, Global};
 
 /// What a line of a script is.
@@ -33,6 +34,8 @@ pub struct Statements {
 pub enum Unplayed {
     /// The line is bad. The text says which word of which line is, with a line feed at its end.
     Told(String),
+    /// Something stands behind the last word that the line may have.
+    WrongNumberOfWords,
     NoMemory,
 }
 
@@ -66,21 +69,30 @@ impl SqlScript {
     /// a `done` line what is left of the statement at which its session works. Lines that open and close sessions are plain ones.
     pub fn hear(&mut self, number: u32, line: &str) -> Result<Heard, Unplayed>
         ensures heard { IfOk result (IsHeardOf self.old line.now) }
+        ensures whole { OnOk result (DropsNoText self.old line.now) }
     {
         let (word, behind) = cut_word(line);
         let (name, text) = cut_word(behind);
         if self.schema.is_some() {
-            self.hear_schema(line, word == "end" && name.is_empty())?;
+            let is_end = word == "end";
+            ends_there(if is_end { behind } else { "" })?;
+            self.hear_schema(line, is_end)?;
             return Ok(Heard::Schema);
         }
         match verb_of(word) {
             Verb::Schema => {
+                ends_there(behind)?;
                 self.begin_schema(number);
                 Ok(Heard::Schema)
             }
             Verb::Do => self.hear_statements(number, name, text, false),
             Verb::Work => self.hear_statements(number, name, text, true),
-            Verb::Done => self.hear_end(number, before_semicolon(name)),
+            Verb::Done => {
+                let (called, more) = cut_at_semicolon(name);
+                ends_there(more)?;
+                ends_there(text)?;
+                self.hear_end(number, called)
+            }
             Verb::Session => {
                 self.hear_opening(name, text)?;
                 Ok(Heard::Plain)
@@ -213,6 +225,17 @@ impl SqlScript {
             None => ScriptDefect::NoSession,
         };
         Err(Unplayed::of(self.alloc, number, name.as_bytes(), whole(what)))
+    }
+}
+
+/// Checks that nothing stands in `text`, which is behind the last word that a line may have.
+fn ends_there(text: &str) -> Result<(), Unplayed>
+    ensures { OnOk result (is_blank text.now ≡ true) }
+{
+    if is_blank(text) {
+        Ok(())
+    } else {
+        Err(Unplayed::WrongNumberOfWords)
     }
 }
 

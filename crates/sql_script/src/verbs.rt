@@ -1,9 +1,9 @@
 //! The words of a script's lines that say SQL: what the first one asks for, and where each ends.
-ghost use Rattle.std.specs.Prelude.{◌≡◌, position, MatchOption};
+ghost use Rattle.std.specs.Prelude.{◌≡◌, position};
 ghost use Rattle.std.specs.Char.{is_ascii_whitespace};
 ghost use Rattle.std.specs.Str.{IsCharBoundary};
 ghost use Rattle.sql_script.specs.Lines.{verb_of};
-ghost use Rattle.sql_script.specs.Words.{before_semicolon, behind_word, first_word, word_end};
+ghost use Rattle.sql_script.specs.Words.{before_semicolon, behind_semicolon, behind_word, first_word, is_blank, word_end};
 
 /// What the first word of a line asks for.
 #[derive(Clone, Copy, PartialEq, Eq)]
@@ -81,19 +81,20 @@ fn first_space(text: &str) -> Option<usize>
         .position(|byte| byte.is_ascii_whitespace())
 }
 
-/// `word` up to its first semicolon.
-pub fn before_semicolon(word: &str) -> &str
-    ensures { result.now ≡ before_semicolon word.now }
+/// What comes before and what comes behind the first semicolon of `word`. Where there is none all of `word` comes before it.
+pub fn cut_at_semicolon(word: &str) -> (&str, &str)
+    ensures before { result.0.now ≡ before_semicolon word.now }
+    ensures behind { result.1.now ≡ behind_semicolon word.now }
 {
-    match cut_at_semicolon(word) {
-        Some((before, _)) => before,
-        None => word,
+    match word.split_once(';') {
+        Some(parts) => parts,
+        None => (word, ""),
     }
 }
 
-/// What comes before and what comes after the first semicolon of `word`, if there is one.
-fn cut_at_semicolon(word: &str) -> Option<(&str, &str)>
-    ensures { MatchOption result (before_semicolon word.now ≡ word.now) (λ parts. parts.0.now ≡ before_semicolon word.now) }
+/// Whether no word stands in `text`.
+pub fn is_blank(text: &str) -> bool
+    ensures { result ≡ is_blank text.now }
 {
-    word.split_once(';')
+    cut_word(text).0.is_empty()
 }

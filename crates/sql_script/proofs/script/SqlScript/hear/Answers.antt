@@ -5,35 +5,29 @@ use Rattle.sql_script.specs.declared.verbs.Verb.TheVariants as verb
 use Rattle.sql_script.proofs.Lemmas.Hearing.{end-heard, heard-as, statements-heard}
 use Rattle.sql_script.proofs.script.SqlScript.hear.Goals as goal
 
-pub returns-in-Do : goal.returns-in-Do
-returns-in-Do c =
+pub returns-in-Do-clause-heard : goal.returns-in-Do-clause-heard
+returns-in-Do-clause-heard c =
     let seen = ap (λ (known : Known). known.in_schema) c.self.view_is in
     let out : c.args.self.now.in_schema ≡ false = cc in
-    record {
-      heard = heard-as c.args.self.now c.args.line.now verb.Do c.hear_statements.result out
-          (sym c.in-Do.is ∙ (c.verb_of.ensures ∙ ap verb_of c.cut_word.ensures.word))
-          (statements-heard c.args.self.now.sessions c.args.line.now c.cut_word.result.1.now c.cut_word-2.result.0.now c.cut_word-2.result.1.now false
-          c.hear_statements.result c.cut_word.ensures.behind c.cut_word-2.ensures.word c.cut_word-2.ensures.behind c.hear_statements.ensures);
-    }
+    heard-as c.args.self.now c.args.line.now verb.Do c.hear_statements.result out
+    (sym c.in-Do.is ∙ (c.verb_of.ensures ∙ ap verb_of c.cut_word.ensures.word))
+    (statements-heard c.args.self.now.sessions c.args.line.now c.cut_word.result.1.now c.cut_word-2.result.0.now c.cut_word-2.result.1.now false
+    c.hear_statements.result c.cut_word.ensures.behind c.cut_word-2.ensures.word c.cut_word-2.ensures.behind c.hear_statements.ensures)
 
-pub returns-in-Work : goal.returns-in-Work
-returns-in-Work c =
+pub returns-in-Work-clause-heard : goal.returns-in-Work-clause-heard
+returns-in-Work-clause-heard c =
     let seen = ap (λ (known : Known). known.in_schema) c.self.view_is in
     let out : c.args.self.now.in_schema ≡ false = cc in
-    record {
-      heard = heard-as c.args.self.now c.args.line.now verb.Work c.hear_statements-in-Work.result out
-          (sym c.in-Work.is ∙ (c.verb_of.ensures ∙ ap verb_of c.cut_word.ensures.word))
-          (statements-heard c.args.self.now.sessions c.args.line.now c.cut_word.result.1.now c.cut_word-2.result.0.now c.cut_word-2.result.1.now true
-          c.hear_statements-in-Work.result c.cut_word.ensures.behind c.cut_word-2.ensures.word c.cut_word-2.ensures.behind c.hear_statements-in-Work.ensures);
-    }
+    heard-as c.args.self.now c.args.line.now verb.Work c.hear_statements-in-Work.result out
+    (sym c.in-Work.is ∙ (c.verb_of.ensures ∙ ap verb_of c.cut_word.ensures.word))
+    (statements-heard c.args.self.now.sessions c.args.line.now c.cut_word.result.1.now c.cut_word-2.result.0.now c.cut_word-2.result.1.now true
+    c.hear_statements-in-Work.result c.cut_word.ensures.behind c.cut_word-2.ensures.word c.cut_word-2.ensures.behind c.hear_statements-in-Work.ensures)
 
-pub returns-in-Done : goal.returns-in-Done
-returns-in-Done c =
+pub returns-in_ok-ends_there-in-Done-2-clause-heard : goal.returns-in_ok-ends_there-in-Done-2-clause-heard
+returns-in_ok-ends_there-in-Done-2-clause-heard c =
     let seen = ap (λ (known : Known). known.in_schema) c.self.view_is in
     let out : c.args.self.now.in_schema ≡ false = cc in
-    record {
-      heard = heard-as c.args.self.now c.args.line.now verb.Done c.hear_end.result out
-          (sym c.in-Done.is ∙ (c.verb_of.ensures ∙ ap verb_of c.cut_word.ensures.word))
-          (end-heard c.args.self.now.sessions c.args.line.now c.cut_word.result.1.now c.cut_word-2.result.0.now c.before_semicolon.result.now
-          c.hear_end.result c.cut_word.ensures.behind c.cut_word-2.ensures.word c.before_semicolon.ensures c.hear_end.ensures);
-    }
+    heard-as c.args.self.now c.args.line.now verb.Done c.hear_end.result out
+    (sym c.in-Done.is ∙ (c.verb_of.ensures ∙ ap verb_of c.cut_word.ensures.word))
+    (end-heard c.args.self.now.sessions c.args.line.now c.cut_word.result.1.now c.cut_word-2.result.0.now c.cut_at_semicolon.result.0.now
+    c.hear_end.result c.cut_word.ensures.behind c.cut_word-2.ensures.word c.cut_at_semicolon.ensures.before c.hear_end.ensures)
