@@ -1,7 +1,7 @@
-//! The program's own words, its statuses, and what it writes to its output and its errors.
+//! The program's statuses, and what it writes, where its words or its input can't be read and where its output can't be
+//! written. What it does otherwise stands in .ci/rows.
 use crate::pipes::Pipe;
-use crate::program_runs::{RUN, RUNS, Run, SHOWN, TYPED, UNREAD};
-use scenario_program::{Errors, NoRun, Source, Task, parse_arguments, run_program};
+use scenario_program::{Errors, Source, run_program};
 use std::alloc::Global;
 use std::io::{self, ErrorKind, Read};
 use std::process::Abort;
@@ -11,11 +11,10 @@ use std::test::Fail;
 use std::thread::Threads;
 use std::time::Clock;
 
-/// A reader of a text, which gives some bytes a read at most, and fails at the end of the text if it is to.
+/// A reader of a text, which fails at the end of the text if it is to.
 #[derive(Drop)]
 struct Input<'a> {
     text: &'a [u8],
-    most: usize,
     fails: bool,
 }
 
@@ -24,8 +23,7 @@ impl Read for Input<'_> {
         if self.text.is_empty() && self.fails {
             return Err(io::Error::from(ErrorKind::Other));
         }
-        let most = self.most.min(buf.len());
-        self.text.read(&mut buf[..most])
+        self.text.read(buf)
     }
 }
 
@@ -37,135 +35,76 @@ pub fn words_of(alloc: Global, line: &str) -> Result<Vec<String>, Fail> {
     Ok(words)
 }
 
-/// Words, and how many sessions and local entries or rounds they ask for, where they aren't refused.
-static WORDS: [(&str, Option<(u32, u32)>); 61] = [
-    ("lock_scenario run", Some((8, 1024))),
-    ("lock_scenario run --sessions 1", Some((1, 1024))),
-    ("lock_scenario run --sessions=64", Some((64, 1024))),
-    ("lock_scenario run --max-local 1", Some((8, 1))),
-    ("lock_scenario run --slot-groups 1", Some((8, 1024))),
+/// A script, whether reading it fails at its end, and whether it is typed and the errors are read at a terminal; the
+/// status of the program on it, and what it writes to its output and to its errors.
+type Run<'a> = (&'a str, bool, bool, u8, &'a str, &'a str);
+
+const OPENED: &str = "a: session 0 database 5\n";
+
+/// Words with a run of the program on them, whose reader fails at its end.
+static FAILING: [(&str, Run<'static>); 6] = [
     (
-        "lock_scenario run --slot-groups 8 --sessions 2",
-        Some((2, 1024)),
+        "lock_scenario run",
+        ("session a 5\nses", true, false, 1, OPENED, "read failed\n"),
     ),
     (
-        "lock_scenario run --max-local 65536 --sessions 2",
-        Some((2, 65_536)),
-    ),
-    ("lock_scenario", None),
-    (
-        "lock_scenario hammer --sessions 4 --rounds 1000",
-        Some((4, 1000)),
+        "lock_scenario run --hints",
+        ("session a 5\nses", true, false, 1, OPENED, "read failed\n"),
     ),
     (
-        "lock_scenario hammer --rounds 1000000 --sessions 64",
-        Some((64, 1_000_000)),
+        "lock_scenario run",
+        (
+            "",
+            true,
+            true,
+            1,
+            "",
+            "reading a script from the terminal, to its end (Ctrl-D); run --help shows its lines\nread failed\n",
+        ),
     ),
-    ("lock_scenario hammer", None),
-    ("lock_scenario hammer --sessions 4", None),
-    ("lock_scenario hammer --rounds 4", None),
-    ("lock_scenario hammer --sessions 65 --rounds 1", None),
-    ("lock_scenario hammer --sessions 0 --rounds 1", None),
-    ("lock_scenario hammer --sessions 1 --rounds 1000001", None),
-    ("lock_scenario hammer --sessions 1 --rounds 0", None),
-    ("lock_scenario modes", Some((0, 0))),
-    ("lock_scenario modes more", None),
-    ("lock_scenario modes --sessions 1", None),
-    ("lock_scenario run --sessions 0", None),
-    ("lock_scenario run --sessions 65", None),
-    ("lock_scenario run --sessions x", None),
-    ("lock_scenario run --sessions 1 --sessions 2", None),
-    ("lock_scenario run --max-local 0", None),
-    ("lock_scenario run --max-local 65537", None),
-    ("lock_scenario run --slot-groups 0", None),
-    ("lock_scenario run --slot-groups 9", None),
-    ("lock_scenario run --slot-groups x", None),
-    ("lock_scenario run more", None),
-    ("lock_scenario run --reuse --sessions 2", Some((2, 1024))),
-    ("lock_scenario run --sql --sessions 2", Some((2, 1024))),
-    ("lock_scenario orders --sql", None),
-    ("lock_scenario shell --sql", None),
-    ("lock_scenario run --reuse=yes", None),
-    ("lock_scenario run --hints --sessions 2", Some((2, 1024))),
-    ("lock_scenario run --hints more", None),
-    ("lock_scenario orders --reuse", None),
-    ("lock_scenario --man", Some((0, 0))),
-    ("lock_scenario run --man", None),
-    ("lock_scenario orders", Some((8, 10_000))),
     (
-        "lock_scenario orders --limit 1000000 --sessions 2",
-        Some((2, 1_000_000)),
+        "lock_scenario sql",
+        ("SELECT 1", true, false, 1, "", "read failed\n"),
     ),
-    ("lock_scenario orders --limit 0", None),
-    ("lock_scenario orders --limit 1000001", None),
-    ("lock_scenario orders --limit x", None),
-    ("lock_scenario orders --seed 4294967295", Some((8, 10_000))),
-    ("lock_scenario orders --seed 4294967296", None),
-    ("lock_scenario orders --seed x", None),
-    ("lock_scenario orders --ends", Some((8, 10_000))),
-    ("lock_scenario orders --ends more", None),
-    ("lock_scenario orders --hints", Some((8, 10_000))),
-    ("lock_scenario shell --hints", None),
-    ("lock_scenario shell --max-local 3", Some((64, 3))),
-    ("lock_scenario shell more", None),
-    ("lock_scenario shell --reuse --sessions 1", Some((1, 1024))),
-    ("lock_scenario shell --reuse more", None),
     (
-        "lock_scenario sql --fail-on writes --single-transaction",
-        Some((0, 0)),
+        "lock_scenario orders",
+        ("session a", true, false, 1, "", "read failed\n"),
     ),
-    ("lock_scenario sql --schema schema.sql", Some((0, 0))),
-    ("lock_scenario sql --schema", None),
-    ("lock_scenario sql --fail-on waits", None),
-    ("lock_scenario sql more", None),
+    (
+        "lock_scenario shell",
+        ("session a 5\nfrob", true, false, 1, OPENED, "read failed\n"),
+    ),
 ];
 
-#[test]
-fn reads_its_own_words(rt: HostRuntime) -> Result<(), Fail> {
-    let alloc = rt.alloc();
-    for row in &WORDS {
-        let (line, expected) = *row;
-        let words = words_of(alloc, line)?;
-        let limits = match parse_arguments(alloc, words.as_slice()) {
-            Ok(Task::Run(limits, _)) => Some((limits.sessions, limits.max_local)),
-            Ok(Task::Hammer(hammer)) => Some((hammer.sessions, hammer.rounds)),
-            Err(NoRun::Refused(_)) => None,
-            Ok(Task::Orders(limits, options, _)) => Some((limits.sessions, options.limit)),
-            Ok(Task::Shell(limits, _)) => Some((limits.sessions, limits.max_local)),
-            // The conflict table, the man page and SQL, which have no limits.
-            Ok(Task::Modes) | Ok(Task::Man) | Ok(Task::Sql) => Some((0, 0)),
-            // A text, and being out of memory: limits that no row has.
-            Err(_) => Some((0, 1)),
-        };
-        assert!(rt; limits == expected, "the limits of {line:?}");
-    }
-    Ok(())
-}
+/// Why words can't be read, with a run of the program then.
+static UNREAD: [(ErrorKind, Run<'static>); 2] = [
+    (
+        ErrorKind::InvalidData,
+        (
+            "session a 5\n",
+            false,
+            false,
+            2,
+            "",
+            "error: invalid UTF-8 was detected in one or more arguments\n",
+        ),
+    ),
+    (
+        ErrorKind::OutOfMemory,
+        ("session a 5\n", false, false, 1, "", "no memory\n"),
+    ),
+];
 
-/// Runs the program on `words`, at a terminal where `is_terminal` is true, and checks its status and both its texts by
-/// `run`.
-pub fn expect_program(
+/// Runs the program on `words`, and checks its status and both its texts by `run`.
+fn expect_program(
     rt: &(impl Abort + AllocGlobal + Clock + Files + Threads + Wait + Sync),
     words: io::Result<Vec<String>>,
-    is_terminal: bool,
     run: Run<'_>,
 ) {
-    expect_read(rt, words, is_terminal, usize::MAX, run);
-}
-
-/// Runs the program as `expect_program` does, on an input that is read `most` bytes at a time.
-pub fn expect_read(
-    rt: &(impl Abort + AllocGlobal + Clock + Files + Threads + Wait + Sync),
-    words: io::Result<Vec<String>>,
-    is_terminal: bool,
-    most: usize,
-    run: Run<'_>,
-) {
-    let (script, fails, status, printed, said) = run;
+    let (script, fails, is_terminal, status, printed, said) = run;
     let reader = Source {
         reader: Input {
             text: script.as_bytes(),
-            most,
             fails,
         },
         is_terminal,
@@ -191,22 +130,12 @@ pub fn expect_read(
 }
 
 #[test]
-fn answers_its_words(rt: HostRuntime) -> Result<(), Fail> {
-    for row in &RUNS {
-        let (line, run) = *row;
-        expect_program(&rt, Ok(words_of(rt.alloc(), line)?), false, run);
+fn tells_of_readers_that_fail(rt: HostRuntime) -> Result<(), Fail> {
+    for (line, run) in &FAILING {
+        expect_program(&rt, Ok(words_of(rt.alloc(), line)?), *run);
     }
-    for row in &SHOWN {
-        let (line, run) = *row;
-        expect_program(&rt, Ok(words_of(rt.alloc(), line)?), false, run);
-    }
-    for row in &TYPED {
-        let (line, run) = *row;
-        expect_program(&rt, Ok(words_of(rt.alloc(), line)?), true, run);
-    }
-    for row in &UNREAD {
-        let (kind, run) = *row;
-        expect_program(&rt, Err(io::Error::from(kind)), false, run);
+    for (kind, run) in &UNREAD {
+        expect_program(&rt, Err(io::Error::from(*kind)), *run);
     }
     Ok(())
 }
@@ -219,14 +148,14 @@ type Closed = (&'static str, &'static str, u32, bool, u8, u32);
 static CLOSED: [Closed; 13] = [
     ("lock_scenario modes", "", 7, true, 1, 1),
     ("lock_scenario modes", "", 1000, false, 1, 1),
-    (RUN, "session a 5\n", 0, true, 1, 1),
-    (RUN, "session a 5\n", 1000, false, 1, 1),
+    ("lock_scenario run", "session a 5\n", 0, true, 1, 1),
+    ("lock_scenario run", "session a 5\n", 1000, false, 1, 1),
     ("lock_scenario --help", "", 0, true, 1, 1),
     ("lock_scenario --help", "", 1000, false, 1, 1),
     ("lock_scenario --version", "", 0, true, 1, 1),
     ("lock_scenario --version", "", 1000, false, 1, 1),
-    (RUN, "frob\n", 1000, true, 3, 0),
-    (RUN, "\u{e9}\n", 1000, true, 3, 0),
+    ("lock_scenario run", "frob\n", 1000, true, 3, 0),
+    ("lock_scenario run", "\u{e9}\n", 1000, true, 3, 0),
     (
         "lock_scenario hammer --sessions 2 --rounds 3",
         "",

@@ -1,9 +1,9 @@
-//! Scripts of as many sessions as there can be, and what is left when a script has ended.
+//! What is left when a script has ended.
 ghost use Rattle.std.specs.Prelude.{◌≡◌, ◌≤◌};
 ghost use Rattle.lock_manager.specs.Crews.{SeatsAre};
 ghost use Rattle.modes_core.specs.Sessions.{usual_sessions};
 
-use crate::scripts::{ALL_SESSIONS, expect_run};
+use crate::scripts::ALL_SESSIONS;
 use lock_manager::{Desk, Manager, ManagerDesk, OwnSession};
 use lock_table::PartTable;
 use scenario::{Manner, OnceDesk, Output, Scene, Script, ScriptState};
@@ -12,34 +12,6 @@ use std::alloc::Global;
 use std::process::Abort;
 use std::sync::Wait;
 use std::test::Fail;
-
-/// Lines that open sixty-four sessions, out of the order of their names, each of which takes a lock, and what they
-/// print.
-fn open_all(alloc: Global) -> Result<(String, String), Fail> {
-    let mut script = String::new(alloc);
-    let mut printed = String::new(alloc);
-    for number in 0..64u32 {
-        let name = format!(in alloc; "s{:02}", number.wrapping_mul(37) % 64)?;
-        let lines = format!(in alloc; "session {name} {number}\ntry {name} 5/1 AccessShareLock\n")?;
-        script.push_str(lines.as_str())?;
-        let lines = format!(in alloc;
-            "{name}: session {number} database {number}\n{name}: granted\n"
-        )?;
-        printed.push_str(lines.as_str())?;
-    }
-    Ok((script, printed))
-}
-
-#[test]
-fn opens_all_sessions_and_no_more(rt: HostRuntime) -> Result<(), Fail> {
-    let (mut script, mut printed) = open_all(rt.alloc())?;
-    script.push_str("session more 5\nclose s00\nsession s00 5\nwaiters s01 5/1 ShareLock\n")?;
-    printed.push_str(
-        "more: refused 12 no more sessions\ns00: closed\ns00: refused 12 no more sessions\n\
-         s01: you don't own a lock of type ShareLock\n",
-    )?;
-    expect_run(&rt, ALL_SESSIONS, script.as_str(), printed.as_str(), "")
-}
 
 /// Scripts over one `ScriptState`, and whether they run to their end.
 static IN_TURN: [(&str, bool); 3] = [

@@ -1,5 +1,4 @@
 //! Readers that fail at each read in turn, and writers at each write.
-use crate::inputs::LINES;
 use crate::scripts::ALL_SESSIONS;
 use lock_script::Fault;
 use scenario::run_script;
@@ -51,6 +50,23 @@ impl Write for BrokenWriter<'_> {
         Ok(())
     }
 }
+
+/// The lines of a script in which sessions wait, and what each prints.
+static LINES: [(&str, &str); 9] = [
+    ("session a 5\n", OPENED),
+    ("session b 5\n", "b: session 1 database 5\n"),
+    ("# both ask for one relation\n", ""),
+    ("try a 5/16384 AccessShareLock\n", "a: granted\n"),
+    ("lock b 5/16384 AccessExclusiveLock\n", "b: waits\n"),
+    (
+        "list a\n",
+        "table a 5/16384 AccessShareLock granted\n\
+         table b 5/16384 AccessExclusiveLock awaited\nrows 2\n",
+    ),
+    ("commit a\n", "a: committed\nb: granted after waiting\n"),
+    ("lock a 5/16384 AccessShareLock\n", "a: waits\n"),
+    ("cancel b a\n", "b: asked a\na: cancelled\n"),
+];
 
 /// The lines of the script that end within `bytes` bytes, and what they print.
 fn lines_within(alloc: Global, bytes: usize) -> Result<(String, String), Fail> {
