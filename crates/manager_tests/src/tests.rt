@@ -9,6 +9,7 @@ mod asked;
 mod audits;
 mod busy;
 mod busy_lives;
+mod calls;
 mod cases;
 mod configurations;
 mod conflicts;
@@ -30,8 +31,6 @@ mod servers;
 mod side_by_side;
 mod tasks;
 mod threads;
-mod turn_lists;
-mod turns;
 mod unsteady;
 mod waits;
 mod waits_of_two;
@@ -56,12 +55,11 @@ use std::test::Fail;
 use std::thread::Threads;
 use std::time::Clock;
 use threads::Plan;
-use turn_lists::LISTS;
 
 /// What the sessions of a manager do.
 #[derive(Clone, Copy)]
-enum DeskCase<'a> {
-    OfTwo(Case<'a>),
+enum DeskCase {
+    OfTwo(Case),
     /// One session takes many modes and gives them back, where memory may run out once.
     GoesOn,
     /// Three sessions are lent to audits, where memory may run out once.
@@ -92,7 +90,7 @@ fn tell<
     B: Board<Part> + Send,
     D: Desk<OwnSession<Part, B>> + Send,
     R: Abort + Clock + Threads + Wait + Sync + Print,
->(rt: &R, alloc: Global, desk: &mut D, desk_case: DeskCase<'_>)
+>(rt: &R, alloc: Global, desk: &mut D, desk_case: DeskCase)
     requires seats { SeatsAre B.seat D.seat }
     ensures manager { D.manager desk.new ≡ D.manager desk.old }
     ensures live { D.live desk.new ≡ D.live desk.old }
@@ -145,7 +143,7 @@ fn tell_at<R: Abort + Clock + Threads + Wait + Sync + Print>(
     rt: &R,
     alloc: Global,
     desk: &mut ManagerDesk<'_>,
-    desk_case: DeskCase<'_>,
+    desk_case: DeskCase,
 )
     ensures manager { desk.new.manager.now ≡ desk.old.manager.now }
     ensures live { desk.new.opener.live ≡ desk.old.opener.live }
@@ -158,7 +156,7 @@ fn run<R: Abort + Clock + Threads + Wait + Sync + Print>(
     rt: &R,
     alloc: Global,
     config: Config,
-    desk_case: DeskCase<'_>,
+    desk_case: DeskCase,
 ) -> Result<(), Fail> {
     let (manager, opener) = make_at_last(alloc, config)?;
     let mut desk = ManagerDesk::new(&manager, opener);
@@ -188,32 +186,15 @@ fn two(max_local: u32) -> Config {
 }
 
 #[test]
-fn turns_are_answered_as_the_lists_say(rt: HostRuntime) -> Result<(), Fail> {
-    for list in &LISTS {
-        println!(rt; "{}", list.name)?;
-        let config = Config {
-            sessions: list.sessions,
-            max_local: list.max_local,
-            slot_groups: 1,
-        };
-        let desk_case = DeskCase::OfTwo(Case::Turns(list.turns, list.rounds));
-        run(&rt, rt.alloc(), config, desk_case)?;
-    }
-    Ok(())
-}
-
-#[test]
 fn two_sessions_do_as_the_cases_say(rt: HostRuntime) -> Result<(), Fail> {
     for case in [
-        Case::EachModeBesideEach,
         Case::LeavesAsAsked,
         Case::EndsAllWaits,
         Case::CancelsTooLate,
         Case::LooksTooLate,
         Case::WaitsAsAsked,
         Case::WaitsForNothing,
-        Case::AnsweredAtOnce,
-        Case::SimpleDeadlock,
+        Case::GivesUp,
         Case::Sleeps { asks: false },
         Case::Sleeps { asks: true },
         Case::ListsMany,

@@ -4,8 +4,7 @@ ghost use Rattle.std.specs.Prelude.{◌≡◌};
 
 use super::pair::Pair;
 use super::races::Race;
-use super::turns::Turn;
-use super::{busy, conflicts, listings, memory, monitors, races, turns, waits_of_two};
+use super::{busy, listings, memory, monitors, races, waits_of_two};
 use lock_manager::Part;
 use shared_rule::Board;
 use std::process::Abort;
@@ -14,18 +13,14 @@ use std::thread::Threads;
 
 /// What two sessions of one manager do.
 #[derive(Clone, Copy)]
-pub enum Case<'a> {
-    /// The sessions take turns, the given ones, over and over.
-    Turns(&'a [Turn], u32),
-    EachModeBesideEach,
+pub enum Case {
     LeavesAsAsked,
     EndsAllWaits,
     CancelsTooLate,
     LooksTooLate,
     WaitsAsAsked,
     WaitsForNothing,
-    AnsweredAtOnce,
-    SimpleDeadlock,
+    GivesUp,
     /// One session sleeps until the other one gives back what it has, or, where `asks`, asks it to cancel.
     Sleeps { asks: bool },
     ListsMany,
@@ -40,28 +35,19 @@ pub enum Case<'a> {
 pub fn perform<B: Board<Part> + Send, R: Abort + Threads + Wait + Sync + Print>(
     rt: &R,
     mut pair: Pair<Part, B>,
-    case: Case<'_>,
+    case: Case,
 ) -> Pair<Part, B>
     ensures first { B.seat result.first.board ≡ B.seat pair.first.board }
     ensures second { B.seat result.second.board ≡ B.seat pair.second.board }
 {
     match case {
-        Case::Turns(turns, rounds) => {
-            turns::play_often(rt, &mut pair, turns, rounds);
-            pair
-        }
-        Case::EachModeBesideEach => {
-            conflicts::ask_for_all(rt, &mut pair);
-            pair
-        }
         Case::LeavesAsAsked => waits_of_two::leave_as_asked(rt, pair),
         Case::EndsAllWaits => monitors::end_all_waits(rt, pair),
         Case::CancelsTooLate => waits_of_two::cancel_too_late(rt, pair),
         Case::LooksTooLate => waits_of_two::look_too_late(rt, pair),
         Case::WaitsAsAsked => waits_of_two::wait_as_asked(rt, pair),
         Case::WaitsForNothing => waits_of_two::wait_for_nothing(rt, pair),
-        Case::AnsweredAtOnce => waits_of_two::answer_at_once(rt, pair),
-        Case::SimpleDeadlock => waits_of_two::refuse_a_simple_deadlock(rt, pair),
+        Case::GivesUp => waits_of_two::give_up(rt, pair),
         Case::Sleeps { asks } => waits_of_two::sleep_in_a_thread(rt, pair, asks),
         Case::ListsMany => {
             listings::list_many(rt, &mut pair);

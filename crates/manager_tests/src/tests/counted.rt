@@ -6,10 +6,11 @@ ghost use Rattle.shared_rule.specs.Boards.{nothing_due};
 ghost use Rattle.shared_rule.specs.History.{blank_account};
 ghost use Rattle.shared_rule.specs.Opening.{AreNew};
 
-use super::turn_lists::{COUNT_FULL, LOCAL_FULL, NOT_ELIGIBLE, NOT_HELD};
-use super::turns::Answer::{AlreadyHeld, Ended, Granted, Modes, Released, StillHeld, Times};
-use super::turns::Call::{Acquire, Commit, Count, Database, Fast, Held, Try, Unlock};
-use super::turns::{Answer, Call, take_turn};
+use super::calls::Answer::{
+    AlreadyHeld, Ended, Granted, Modes, Refused, Released, StillHeld, Times,
+};
+use super::calls::Call::{Acquire, Commit, Count, Database, Fast, Held, Try, Unlock};
+use super::calls::{Answer, Call, make_often};
 use super::watched::{Watch, WatchedBoard};
 use lock_manager::Mode::{AccessExclusive, AccessShare, Share};
 use lock_manager::OwnSession;
@@ -76,6 +77,16 @@ const OBJECT: Tag = Tag::Object {
     object: 16_384,
     sub_object: 0,
 };
+
+// Refusals, by their numbers.
+
+const LOCAL_FULL: Answer = Refused(3);
+
+const COUNT_FULL: Answer = Refused(4);
+
+const NOT_HELD: Answer = Refused(7);
+
+const NOT_ELIGIBLE: Answer = Refused(11);
 
 /// A counted call: how many times it is made, the call, what each is answered, and whether each does something on the
 /// board.
@@ -163,7 +174,7 @@ fn make_counted<T: PartTable, B: Board<T>, R: Abort + Wait>(
 {
     let (times, call, answer, is_step) = CALLS[place];
     let before = steps.made();
-    take_turn(rt, session, times, call, answer, place);
+    make_often(rt, session, times, call, answer, place);
     assert_eq!(rt; steps.made() != before, is_step, "call {place}");
 }
 

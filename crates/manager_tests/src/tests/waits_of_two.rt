@@ -6,46 +6,51 @@ use super::answers::{Answer, expect_acted, expect_answer, expect_seen};
 use super::pair::Pair;
 use super::tasks::{Task, act_side_by_side};
 use super::waits::{OWNER, TABLE, ask, find_granted, find_still, give_back, leave, queue, take};
-use lock_manager::{Acquired, Asked, Mode, OwnSession, OwnWaiting, Part, Refusal, Started};
+use lock_manager::{Acquired, Asked, Mode, OwnSession, OwnWaiting, Part, Refusal};
 use lock_table::PartTable;
 use shared_rule::Board;
 use std::process::Abort;
 use std::sync::Wait;
 use std::thread::Threads;
 
-/// Takes the table in `mode` with `session`, or is refused it, with no wait for it. Ends the test where that isn't
-/// answered `expected`.
-fn start_as<T: PartTable, B: Board<T>, R: Abort + Wait>(
+/// Takes the table in `ShareLock` with `session`, which looks `looks` times at its wait at most. Ends the test where that
+/// isn't answered `expected`.
+fn acquire_in_looks<T: PartTable, B: Board<T>, R: Abort + Wait>(
     rt: &R,
-    session: OwnSession<T, B>,
-    mode: Mode,
+    session: &mut OwnSession<T, B>,
+    looks: u32,
     expected: Answer,
-) -> OwnSession<T, B>
-    ensures seat { B.seat result.board ≡ B.seat session.board }
+)
+    ensures seat { B.seat session.new.board ≡ B.seat session.old.board }
 {
-    let (session, answer) = match session.start(rt, TABLE, mode, OWNER) {
-        Started::Granted(session) => (session, Ok(Acquired::Granted)),
-        Started::AlreadyHeld(session) => (session, Ok(Acquired::AlreadyHeld)),
-        Started::Refused(session, refusal) => (session, Err(refusal)),
-        Started::Queued(_) => panic!(rt; "queued"),
-    };
+    let mut left = looks;
+    let answer = session.acquire_while(rt, TABLE, Mode::Share, OWNER, || {
+        left = left.saturating_sub(1);
+        left != 0
+    });
     expect_answer(rt, answer, expected);
-    session
 }
 
-/// Takes the table in `mode` with `session`, and waits for it where it must. Ends the test where that isn't answered
-/// `expected`.
-fn lock_as<T: PartTable, B: Board<T>, R: Abort + Wait>(
-    rt: &R,
-    session: OwnSession<T, B>,
-    mode: Mode,
-    expected: Answer,
-) -> OwnSession<T, B>
-    ensures seat { B.seat result.board ≡ B.seat session.board }
+/// Has the second session of `pair` give up its waits, after one look and after a hundred. They leave nothing. What need
+/// not wait is had at once.
+pub fn give_up<T: PartTable, B: Board<T>, R: Abort + Wait>(rt: &R, pair: Pair<T, B>) -> Pair<T, B>
+    ensures first { B.seat result.first.board ≡ B.seat pair.first.board }
+    ensures second { B.seat result.second.board ≡ B.seat pair.second.board }
 {
-    let (session, answer) = session.lock(rt, TABLE, mode, OWNER).into_parts();
-    expect_answer(rt, answer, expected);
-    session
+    let Pair {
+        mut first,
+        mut second,
+    } = pair;
+    take(rt, &mut first, Mode::AccessExclusive);
+    acquire_in_looks(rt, &mut second, 1, Err(Refusal::Cancelled));
+    acquire_in_looks(rt, &mut second, 100, Err(Refusal::Cancelled));
+    assert!(rt; second.held(TABLE).mask() == 0);
+    assert_eq!(rt; second.strong_count(TABLE.strong_index()), 1);
+    give_back(rt, &mut first, Mode::AccessExclusive);
+    acquire_in_looks(rt, &mut second, 1, Ok(Acquired::Granted));
+    acquire_in_looks(rt, &mut second, 0, Ok(Acquired::AlreadyHeld));
+    second.abort(rt);
+    Pair { first, second }
 }
 
 /// Waits until `waiting` is over. Ends the test where that isn't answered `expected`.
@@ -164,50 +169,6 @@ pub fn wait_for_nothing<T: PartTable, B: Board<T>, R: Abort + Wait>(
     give_back(rt, &mut first, Mode::Exclusive);
     let mut second = wait_as(rt, waiting, Ok(Acquired::Granted));
     give_back(rt, &mut second, Mode::Share);
-    Pair { first, second }
-}
-
-/// Asks with `pair` for what needs no wait, which is answered at once.
-pub fn answer_at_once<T: PartTable, B: Board<T>, R: Abort + Wait>(
-    rt: &R,
-    pair: Pair<T, B>,
-) -> Pair<T, B>
-    ensures first { B.seat result.first.board ≡ B.seat pair.first.board }
-    ensures second { B.seat result.second.board ≡ B.seat pair.second.board }
-{
-    let Pair { first, second } = pair;
-    let first = start_as(rt, first, Mode::Exclusive, Ok(Acquired::Granted));
-    let first = start_as(rt, first, Mode::Exclusive, Ok(Acquired::AlreadyHeld));
-    let first = lock_as(rt, first, Mode::Exclusive, Ok(Acquired::AlreadyHeld));
-    let mut first = lock_as(rt, first, Mode::Share, Ok(Acquired::Granted));
-    let oneself = first.id();
-    ask(rt, &mut first, oneself, Asked::NotWaiting);
-    first.commit(rt);
-    Pair { first, second }
-}
-
-/// Has both sessions of `pair` take a mode and want a higher one: the second that asks is refused, and the first one
-/// is granted.
-pub fn refuse_a_simple_deadlock<T: PartTable, B: Board<T>, R: Abort + Wait>(
-    rt: &R,
-    pair: Pair<T, B>,
-) -> Pair<T, B>
-    ensures first { B.seat result.first.board ≡ B.seat pair.first.board }
-    ensures second { B.seat result.second.board ≡ B.seat pair.second.board }
-{
-    let Pair {
-        mut first,
-        mut second,
-    } = pair;
-    take(rt, &mut first, Mode::Share);
-    take(rt, &mut second, Mode::Share);
-    let waiting = queue(rt, first, Mode::Exclusive);
-    let session = waiting.id();
-    let deadlock = Refusal::SimpleDeadlock { session };
-    let mut second = lock_as(rt, second, Mode::Exclusive, Err(deadlock));
-    second.abort(rt);
-    let mut first = find_granted(rt, waiting);
-    first.abort(rt);
     Pair { first, second }
 }
 
