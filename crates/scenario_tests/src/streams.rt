@@ -53,7 +53,7 @@ impl Write for BrokenWriter<'_> {
 
 /// The lines of a script in which sessions wait, and what each prints.
 static LINES: [(&str, &str); 9] = [
-    ("session a 5\n", OPENED),
+    ("session a 5\n", "a: session 0 database 5\n"),
     ("session b 5\n", "b: session 1 database 5\n"),
     ("# both ask for one relation\n", ""),
     ("try a 5/16384 AccessShareLock\n", "a: granted\n"),
