@@ -1,0 +1,3 @@
+pub mod OneList
+pub mod Moments
+pub mod Requests
