@@ -43,3 +43,4 @@ pub mod FurtherViews
 pub mod Auditing
 pub mod AuditSums
 pub mod Stacks
+pub mod AtTable

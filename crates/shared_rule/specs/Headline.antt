@@ -7,7 +7,10 @@ use Rattle.lock_table.specs.OwnWait.{OwnWait}
 use Rattle.lock_world.specs.declared.events.Event.{Event}
 use Rattle.lock_world.specs.World.{World, MakesSteps, opening}
 use Rattle.lock_world.specs.Happens.{Runs}
-use Rattle.lock_world.specs.Headline.{Headline, RefusalsSawWhatTheyName}
+use Rattle.modes_core.specs.declared.modes.Mode.{Mode}
+use Rattle.modes_core.specs.declared.tags.Tag.{Tag}
+use Rattle.lock_world.specs.Counted.{counter}
+use Rattle.lock_world.specs.Headline.{Headline, RefusalsSawWhatTheyName, NoTwoConflict, IsInOnePlace, Place, StandsAt, stands_with}
 use Rattle.lock_world.specs.WaitWord.{wait_state}
 use Rattle.lock_world.specs.Wakes.Reasons.{HasReason}
 use Rattle.shared_rule.specs.declared.rule.TableSizes.{TableSizes}
@@ -25,9 +28,28 @@ use Rattle.shared_rule.specs.Looks.{looks_told, looks_of}
 use Rattle.shared_rule.specs.History.{is_among}
 use Rattle.shared_rule.specs.Ruled.{ContentsAreHome, SeatsAreShown, StandsAtSeat, TurnsAreTold, todo_of}
 
--- The headline of the table: its words, its contents at home and the histories of all sessions show a World to which events have led
--- from the opening one, and which has it. Whatever a conditional request was refused with was so in a World on the way.
+-- The headline of the table: its words, its contents at home and the histories of all sessions show a World in which no
+-- two sessions stand with conflicting modes on one object, each hold is in one place, and each strong lock counter is
+-- how much is counted at its index.
 pub record ShowsHeadline {T : Type 0} (content : T → Content) (begun : T → Option Request) (sizes : TableSizes)
+    (state : State (Kept T) (View T)) : Type 0 where
+  pub world : World
+  pub words : WordsAreShown sizes state.words world.words
+  pub contents : ContentsAreHome content begun state.homes world.contents
+  pub seats : SeatsAreShown content state.views world
+  pub no_two_conflict : NoTwoConflict world
+  pub one_place :
+      (session : ℕ) (tag : Tag) (mode : Mode) → stands_with world session tag mode ≡ true
+      → IsInOnePlace world session tag mode
+  pub nowhere_else :
+      (session : ℕ) (tag : Tag) (mode : Mode) (place : Place) → StandsAt world session tag mode place
+      → stands_with world session tag mode ≡ true
+  pub counters :
+      (index : ℕ) → world.words.strong index ≡ counter world.numbers.limit world.sessions.counted index
+
+-- What each refusal saw: the table shows such a World, to which events have led from the opening one. Whatever a
+-- conditional request was refused with was so in a World on the way.
+pub record ShowsRefusals {T : Type 0} (content : T → Content) (begun : T → Option Request) (sizes : TableSizes)
     (state : State (Kept T) (View T)) : Type 0 where
   pub world : World
   pub events : List Event

@@ -27,3 +27,4 @@ pub mod Gatherings
 pub mod Audits
 pub mod Episodes
 pub mod Headline
+pub mod TableHeadline

@@ -28,10 +28,9 @@ ghost use Rattle.lock_world.specs.declared.events.Word.TheVariants.{Strong};
 
 use lock_table::PartTable;
 
-/// A table that keeps the rule, as it does between any two steps of all threads, shows a World to which events have led
-/// from the opening one, and which has the headline: no two sessions stand with conflicting modes on one object, and
-/// what goes with that. A session for which a conditional request was refused held the object in the mode named, or
-/// awaited it so, in the World in which the session that asked took the content of the object's partition.
+/// A table that keeps the rule, as it does between any two steps of all threads, shows a World that has the
+/// headline: no two sessions stand with conflicting modes on one object. Each hold is in one place, a slot of its
+/// session or the content of a partition, and each strong lock counter is how much is counted at its index.
 pub fn the_table_shows_no_two_sessions_in_conflict<T: PartTable>()
     ensures { (sizes : TableSizes) (state : State (Kept T) (View T)) → Ruled T.content T.begun sizes state
         → ShowsHeadline T.content T.begun sizes state }

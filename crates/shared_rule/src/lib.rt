@@ -27,6 +27,7 @@ mod sharing;
 mod slot_locks;
 mod slots;
 mod table;
+pub mod table_laws;
 mod waits;
 mod wakeups;
 mod words;
