@@ -26,8 +26,8 @@ IsNoJoin done = Unit {0}
 abbrev pub IsWakeupOf : Move → Tag → Type 0
 IsWakeupOf done tag = ((its : Mode) × (done ≡ Release tag its)) ⊎ (done ≡ Leave tag)
 
--- A hold comes to be by a grant of its session's own, or by a wakeup, which grants the session's wait, whoever
--- makes it.
+-- A hold comes to be by a grant of its session's own, or by a wakeup, which grants the session's wait,
+-- whoever makes it.
 abbrev pub ComesToBe : Content → ℕ → Content → ℕ → Tag → Mode → Type 0
 ComesToBe before mover after session tag mode =
     ((mover ≡ session) × MovesList before session (Grant tag mode) [] after)

@@ -25,9 +25,9 @@ use Rattle.lock_world.specs.Headline.{stands_with}
 abbrev pub list_of : World → Content
 list_of w = record { holds = stands_with w; waits = λ tag. (w.contents.now (partition_of tag)).waits tag }
 
--- What a wait remembers of the modes that its session holds on the object as it joins: some of them. Each mode
--- that is left out is weak (1 to 3), and conflicts neither with the mode asked for, nor with any that somebody
--- holds or awaits on the object then.
+-- What a wait remembers of the modes that its session holds on the object as it joins: some of them. Each
+-- mode that is left out is weak (1 to 3), and conflicts neither with the mode asked for, nor with any that
+-- somebody holds or awaits on the object then.
 pub record Remembers (list : Content) (session : ℕ) (tag : Tag) (mode : Mode) (held : Mode → Bool) : Type 0 where
   pub are_held : (its : Mode) → held its ≡ true → list.holds session tag its ≡ true
   pub left_out_is_weak : (its : Mode) → list.holds session tag its ≡ true → held its ≡ false → number_of its ≤ 3
@@ -52,11 +52,12 @@ pub record JoinsQueue (before : Content) (session : ℕ) (tag : Tag) (mode : Mod
   pub answered : WaitingAnswer before session tag mode (Queued place)
   pub remembers : Remembers before session tag mode held
   pub stands :
-      after ≡ with_queue before tag (joined place (record { session = session; mode = mode; held = held }) (before.waits tag))
+      after ≡ with_queue before tag
+      (joined place (record { session = session; mode = mode; held = held }) (before.waits tag))
 
--- A move of the session leads from one list to another, and grants these waits. A grant has nothing in its way, a
--- join has its place, a release and a leave make their wakeups: all as `Moves` says of one content, but that what a
--- join remembers is open. Nothing is adopted: no hold has a place to move to.
+-- A move of the session leads from one list to another, and grants these waits. A grant has nothing in its
+-- way, a join has its place, a release and a leave make their wakeups: all as `Moves` says of one content,
+-- but that what a join remembers is open. Nothing is adopted: no hold has a place to move to.
 abbrev pub MovesList : Content → ℕ → Move → List Wait → Content → Type 0
 MovesList before session Keep granted after = (granted ≡ []) × (after ≡ before)
 MovesList before session (Grant tag mode) granted after =
@@ -72,7 +73,8 @@ abbrev pub Does : Option Move → Content → ℕ → Content → Type 0
 Does None before session after = after ≡ before
 Does (Some done) before session after = (granted : List Wait) × MovesList before session done granted after
 
--- the move, if none stands recorded in the hand that has the partition: a recorded one was made by an earlier step
+-- the move, if none stands recorded in the hand that has the partition: a recorded one was made by an earlier
+-- step
 abbrev pub unless_recorded : Option Move → Move → Option Move
 unless_recorded None done = Some done
 unless_recorded (Some recorded) done = None
@@ -82,7 +84,8 @@ abbrev pub leave_of : World → Option OwnWait → Option Move
 leave_of w None = None
 leave_of w (Some wait) = unless_recorded (recorded_in (w.contents.hand (partition_of wait.tag))) (Leave wait.tag)
 
--- the move that a step of the session makes on the list, if any: six kinds of steps make one, at once and whole
+-- the move that a step of the session makes on the list, if any: six kinds of steps make one, at once and
+-- whole
 abbrev pub move_of_step : World → ℕ → Step → Option Move
 move_of_step w session (SetSlot place tag mode) = Some (Grant tag mode)
 move_of_step w session (ClearSlot place tag mode) = Some (Release tag mode)
@@ -105,8 +108,8 @@ abbrev pub IsStepOfList : ℕ → Content → Content → Type 0
 IsStepOfList session before after =
     (after ≡ before) ⊎ ((done : Move) × (granted : List Wait) × MovesList before session done granted after)
 
--- A run of the list, event by event: what each World shows follows by a step of the list from what the one before
--- it showed.
+-- A run of the list, event by event: what each World shows follows by a step of the list from what the one
+-- before it showed.
 abbrev pub IsRunOfList : Content → List Event → List World → Type 0
 IsRunOfList list [] [] = Unit {0}
 IsRunOfList list [] (w ∷ worlds) = ⊥

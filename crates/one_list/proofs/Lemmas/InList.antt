@@ -1,7 +1,7 @@
-use Rattle.std.proofs.Common.{◌≡◌, ◌≢◌, ℕ, Bool, true, false, not, ◌||◌, List, [], ◌∷◌, refl, sym, ap, ◌∙◌, subst, inl, inr}
+use Rattle.std.proofs.Common.{◌≡◌, ℕ, Bool, true, false, not, ◌||◌, List, [], ◌∷◌, refl, sym, ap, ◌∙◌, subst, inl, inr}
 use Rattle.std.specs.Prelude.{filter, ◌==◌}
 use Rattle.std.specs.Bool.{MatchBool}
-use Rattle.std.proofs.lemmas.Bool.{cases_Bool, cases_eq, both_ways, false_from_ne_true, or_right, cond-true, cond-false, MatchBool-at_true, MatchBool-at_false}
+use Rattle.std.proofs.lemmas.Bool.{cases_Bool, cases_eq, or_right, cond-true, cond-false, MatchBool-at_true, MatchBool-at_false}
 use Rattle.modes_core.specs.declared.modes.Mode.{Mode}
 use Rattle.modes_core.specs.declared.tags.Tag.{Tag}
 use Rattle.modes_core.specs.Tag.{tag_eq, partition_of}
@@ -10,7 +10,7 @@ use Rattle.lock_table.specs.declared.moves.Move.TheVariants.{Grant, Join, Releas
 use Rattle.lock_table.specs.declared.answering.Answer.TheVariants.{Granted, Queued}
 use Rattle.lock_table.specs.Put.{put, set_at}
 use Rattle.lock_table.specs.Content.{Holds, Wait, Content, set_hold, add_hold, remove_hold}
-use Rattle.lock_table.specs.Queue.{some_awaits_conflict, SplitsBehind, hold_all, Wakes, with_queue, joined, joining_wait, add_wait, remove_wait, queue_without}
+use Rattle.lock_table.specs.Queue.{some_awaits_conflict, SplitsBehind, hold_all, Wakes, with_queue, joined, joining_wait, remove_wait, queue_without}
 use Rattle.lock_table.specs.Moves.{Moves, WakesFor}
 use Rattle.lock_table.proofs.Lemmas.Put.{put_here, put_else, set_at-here, set_at-else}
 use Rattle.lock_world.proofs.Lemmas.Moves.Agreeing.{ChangesOnly, ChangesOnly-set, ChangesOnly-both, ChangesOnly-wakes}

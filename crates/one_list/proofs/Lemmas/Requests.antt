@@ -1,4 +1,4 @@
-use Rattle.std.proofs.Common.{◌≡◌, ℕ, zero, suc, true, false, List, [], ◌∷◌, ◌++◌, Some, None, refl, sym, ◌∙◌, subst}
+use Rattle.std.proofs.Common.{◌≡◌, ℕ, zero, suc, true, false, List, ◌∷◌, ◌++◌, Some, None, refl, sym, ◌∙◌, subst}
 use Rattle.std.specs.Prelude.{slice_get}
 use Rattle.std.proofs.lemmas.Bool.{or_left, or_right}
 use Rattle.modes_core.specs.declared.modes.Mode.{Mode}
@@ -12,7 +12,7 @@ use Rattle.lock_table.specs.declared.answering.Answer.TheVariants.{Queued}
 use Rattle.lock_table.specs.declared.answering.Clash.{Clash}
 use Rattle.lock_table.specs.Content.{Wait, Content}
 use Rattle.lock_table.specs.Clash.{ClashIs, first_waiter}
-use Rattle.lock_table.specs.Queue.{WaitingAnswer, joined, with_queue}
+use Rattle.lock_table.specs.Queue.{joined, with_queue}
 use Rattle.lock_table.proofs.Lemmas.OneAnswer.{waiting_answer-one}
 use Rattle.lock_table.proofs.Lemmas.OneMove.{one_moved}
 use Rattle.lock_table.proofs.Lemmas.QueueLaws.{clash-not_free, no_clash-free}

@@ -1,16 +1,11 @@
-use Rattle.std.proofs.Common.{◌≡◌, ℕ, true, false, ◌||◌, List, [], ◌∷◌, Option, Some, None, refl, ap, inl, inr}
+use Rattle.std.proofs.Common.{◌≡◌, ℕ, false, ◌||◌, List, [], ◌∷◌, Option, Some, None, refl, ap, inl, inr}
 use Rattle.modes_core.specs.declared.modes.Mode.{Mode}
 use Rattle.modes_core.specs.declared.tags.Tag.{Tag}
-use Rattle.modes_core.specs.Tag.{partition_of, is_strong_on}
+use Rattle.modes_core.specs.Tag.{partition_of}
 use Rattle.lock_table.specs.declared.moves.Move.{Move}
-use Rattle.lock_table.specs.declared.answering.Answer.{Answer}
-use Rattle.lock_table.specs.declared.answering.Clash.{Clash}
 use Rattle.lock_table.specs.Content.{Content, empty_content}
-use Rattle.lock_table.specs.Clash.{ClashIs}
-use Rattle.lock_table.specs.Queue.{WaitingAnswer}
 use Rattle.lock_world.specs.declared.events.Event.{Event}
 use Rattle.lock_world.specs.World.{World, opening}
-use Rattle.lock_world.specs.Counted.{is_done}
 use Rattle.lock_world.specs.Happens.{Next, RunsThrough}
 use Rattle.lock_world.specs.SafeWorld.{SafeWorld}
 use Rattle.lock_world.proofs.Lemmas.Slots.Databases.{slot_holds-unused}

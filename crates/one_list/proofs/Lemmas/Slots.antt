@@ -5,7 +5,7 @@ use Rattle.modes_core.specs.declared.modes.Mode.{Mode}
 use Rattle.modes_core.specs.declared.tags.Tag.{Tag}
 use Rattle.modes_core.specs.Mode.{mode_eq}
 use Rattle.modes_core.specs.Conflict.{conflict}
-use Rattle.modes_core.specs.Tag.{tag_eq, index_of, partition_of, is_strong_on}
+use Rattle.modes_core.specs.Tag.{tag_eq, index_of, partition_of}
 use Rattle.modes_core.proofs.Lemmas.Conflicts.{conflict_comm, tag_eq-refl, mode_eq-refl}
 use Rattle.lock_table.specs.Content.{Holds, Wait}
 use Rattle.lock_table.specs.Queue.{some_awaits_conflict, waits_there}
