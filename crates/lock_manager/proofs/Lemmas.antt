@@ -16,3 +16,7 @@ pub mod Advisory
 pub mod Blocked
 pub mod Pools
 pub mod Crews
+pub mod OneList
+pub mod ListMoments
+pub mod OwnMarks
+pub mod OwnMoments

@@ -19,3 +19,5 @@ pub mod ShutDown
 pub mod Quiet
 pub mod Reuse
 pub mod Pools
+pub mod ListAnswers
+pub mod ListMoments

@@ -10,6 +10,7 @@ mod desk;
 mod held;
 mod keeper;
 pub mod laws;
+pub mod list_laws;
 mod listing;
 mod manager;
 mod parts;
