@@ -1,5 +1,4 @@
-use Rattle.std.proofs.Common.{◌≡◌, ◌≢◌, ℕ, ◌*◌, ◌≤◌, ◌<◌, ◌^◌, ◌%◌, ◌/◌, Bool, true, false, Option, Some, None, refl, sym, ap, ◌∙◌, subst, arith, rules}
-use Rattle.std.specs.Prelude.{slice_index, ◌==◌}
+use Rattle.std.proofs.Common.{◌≡◌, ℕ, ◌≤◌, ◌<◌, true, Option, Some, None, refl, sym, ap, ◌∙◌, subst, arith}
 use Rattle.std.proofs.lemmas.Bool.{eq-eqb}
 use mathlib.Core.Option.{some}
 use mathlib.Core.Option as maybe
@@ -7,22 +6,21 @@ use lib.ListN.{get_elem?}
 use Rattle.atomic_table.specs.Table.{State}
 use Rattle.modes_core.specs.declared.modes.Mode.{Mode}
 use Rattle.modes_core.specs.declared.tags.Tag.{Tag}
-use Rattle.modes_core.specs.Conflict.{conflict}
 use Rattle.modes_core.specs.Tag.{partition_of, relation_of, is_eligible_for}
-use Rattle.lw_word.specs.LightweightWord.{IsHeldByNobody, IsHeldExclusively}
+use Rattle.lw_word.specs.LightweightWord.{IsHeldByNobody}
 use Rattle.lw_word.specs.SlotWord.{shows}
 use Rattle.lock_table.specs.declared.request.Request.{Request}
 use Rattle.lock_table.specs.Content.{Content}
 use Rattle.lock_world.specs.declared.events.Word.TheVariants.{Partition, Database, Slot}
 use Rattle.lock_world.specs.World.{World, Hand}
-use Rattle.lock_world.specs.SlotHolds.{group_size, most_groups, IsHeldIn}
+use Rattle.lock_world.specs.SlotHolds.{most_groups}
 use Rattle.lock_world.specs.Headline.{Headline, stands_with, InSlot, InPartition}
 use Rattle.lock_world.proofs.Lemmas.Headline.{headline}
 use Rattle.shared_rule.specs.declared.rule.TableSizes.{TableSizes}
 use Rattle.shared_rule.specs.declared.history.View.{View}
 use Rattle.shared_rule.specs.declared.kept.Kept.{Kept}
 use Rattle.shared_rule.specs.declared.kept.Kept.TheVariants as kept
-use Rattle.shared_rule.specs.Layout.{index_of_word, content_shelf_of}
+use Rattle.shared_rule.specs.Layout.{content_shelf_of}
 use Rattle.shared_rule.specs.Ruled.{Ruled, IsHomeUnlessInHand}
 use Rattle.shared_rule.specs.TableHeadline.{IsShownInSlot, IsShownAtHome, TableShows, in_slot, at_home, NoTwoConflictAtTable}
 
