@@ -1,4 +1,4 @@
-ghost use Rattle.std.specs.Prelude.{◌≡◌, ◌+◌, ◌<◌, ◌≤◌, ◌↔◌, ℕ, length, true, false, IsTrue, OnOk, OnErr, IfOk, IfSome, IfNone};
+ghost use Rattle.std.specs.Prelude.{◌≡◌, ◌+◌, ◌*◌, ◌<◌, ◌≤◌, ◌↔◌, ℕ, max, length, true, false, IsTrue, OnOk, OnErr, IfOk, IfSome, IfNone};
 ghost use Rattle.place_index.specs.Notes.{no_place, times, IsFirst, IsFree, IsNoted, IsOneMore, HasSameNotes};
 
 use crate::chains::{
@@ -124,6 +124,7 @@ impl PlaceIndex {
         ensures ok { OnOk result (place < self.new.places) }
         ensures full { OnErr result (self.old.places ≤ place) }
         ensures grows { place < self.old.places → self.new.places ≡ self.old.places }
+        ensures doubles_at_most { self.new.places ≤ max (2 * self.old.places) (place + 1) }
         ensures room { self.old.places ≤ self.new.places }
         ensures notes { HasSameNotes self.old self.new }
     {
@@ -142,6 +143,7 @@ impl PlaceIndex {
         requires beyond { self.old.places ≤ place }
         requires few { place < 4294967296 }
         ensures ok { OnOk result (place < self.new.places) }
+        ensures doubles_at_most { self.new.places ≤ max (2 * self.old.places) (place + 1) }
         ensures room { self.old.places ≤ self.new.places }
         ensures notes { HasSameNotes self.old self.new }
     {
