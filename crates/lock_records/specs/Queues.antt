@@ -1,4 +1,4 @@
-use Rattle.std.specs.Prelude.{◌≡◌, ◌≢◌, ℕ, ◌+◌, ◌<◌, Bool, false, List, [], ◌∷◌, ◌++◌, length, map, Option, Some, None, slice_index_or, is_some, count_by, vec_len, vec_capacity, if◌then◌else◌}
+use Rattle.std.specs.Prelude.{◌≡◌, ◌≢◌, ℕ, ◌+◌, ◌<◌, ◌≤◌, Bool, false, List, [], ◌∷◌, ◌++◌, length, map, Option, Some, None, slice_index_or, is_some, count_by, vec_len, vec_capacity, if◌then◌else◌}
 use Rattle.modes_core.specs.declared.tags.Tag.{Tag}
 use Rattle.modes_core.specs.Tag.{tag_eq}
 use Rattle.lock_table.specs.Content.{Wait}
@@ -31,10 +31,23 @@ abbrev pub waits_of : Option QueueRecord → ℕ
 waits_of None = 0
 waits_of (Some queue) = length queue.waiters.items
 
+-- for how many waits the record at a place has room
+abbrev pub room_of : Option QueueRecord → ℕ
+room_of None = 0
+room_of (Some queue) = vec_capacity queue.waiters
+
+-- what all places have together, by what one has
+unfoldable pub total_of : (Option QueueRecord → ℕ) → List (Option QueueRecord) → ℕ
+total_of one [] = 0
+total_of one (slot ∷ slots) = one slot + total_of one slots
+
 -- how many waits there are
-unfoldable pub waiting_in : List (Option QueueRecord) → ℕ
-waiting_in [] = 0
-waiting_in (slot ∷ slots) = waits_of slot + waiting_in slots
+abbrev pub waiting_in : List (Option QueueRecord) → ℕ
+waiting_in slots = total_of waits_of slots
+
+-- for how many waits the records have room together
+abbrev pub room_in : List (Option QueueRecord) → ℕ
+room_in slots = total_of room_of slots
 
 -- The record at the place is the object's.
 pub record IsQueueAt (slots : List (Option QueueRecord)) (tag : Tag) (place : ℕ) : Type 0 where
@@ -53,6 +66,16 @@ pub record QueuesView : Type 0 where
   pub slots : List (Option QueueRecord)
   pub capacity : ℕ
   pub spare : ℕ
+
+-- There is room for as many records and waits as before, in queues and in the spare one together.
+pub record HasSameRoom (old new : QueuesView) : Type 0 where
+  pub records : new.capacity ≡ old.capacity
+  pub waits : new.spare + room_in new.slots ≡ old.spare + room_in old.slots
+
+-- There is room for as many records as before, and for no more waits than before, in queues and in the spare one together.
+pub record HasNoMoreRoom (old new : QueuesView) : Type 0 where
+  pub records : new.capacity ≡ old.capacity
+  pub waits : new.spare + room_in new.slots ≤ old.spare + room_in old.slots
 
 -- There is room for one more record, and for a wait in it.
 pub record HasRoomForQueue (queues : QueuesView) : Type 0 where

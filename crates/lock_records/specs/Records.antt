@@ -4,7 +4,7 @@ use Rattle.lock_table.specs.Queue.{awaits_mode}
 use Rattle.slab.specs.Slab.{slab_len}
 use Rattle.lock_records.specs.Holders.{holds_in}
 use Rattle.lock_records.specs.Locks.{AreNoted, HasNoLock, IsLockAt}
-use Rattle.lock_records.specs.Queues.{HasRoomInQueue, queue_on, waiting_in}
+use Rattle.lock_records.specs.Queues.{HasRoomInQueue, queue_on, waiting_in, room_in}
 use Rattle.lock_records.specs.Objects.{AreObjects, HasRoom}
 use Rattle.lock_records.specs.View.{RecordView}
 use Rattle.lock_records.specs.declared.records.Records.TheInside.{Inside}
@@ -19,11 +19,12 @@ view_of part = record {
   woken = part.woken.items;
   begun = part.begun.request;
   prepared = part.prepared.request;
+  spare = part.queues.spare;
   capacity = record {
     locks = part.locks.capacity;
     holders = part.holders.capacity;
     queues = part.queues.capacity;
-    spare = part.queues.spare;
+    waits = part.queues.spare + room_in part.queues.slots;
     woken = vec_capacity part.woken;
     places = part.index.places;
   };

@@ -1,6 +1,7 @@
 use Rattle.std.specs.Prelude.{◌≡◌, ℕ, ◌+◌, ◌<◌, List, Option, is_some, count_by}
 use Rattle.modes_core.specs.declared.modes.Mode.{Mode}
 use Rattle.lock_table.specs.Content.{Content}
+use Rattle.lock_table.specs.Capacity.{Capacity}
 use Rattle.lock_table.specs.declared.request.Request.{Request}
 use Rattle.lock_records.specs.Holders.{holds_in}
 use Rattle.lock_records.specs.Queues.{queue_on, waiting_in}
@@ -8,17 +9,9 @@ use Rattle.lock_records.specs.declared.locks.LockRecord.{LockRecord}
 use Rattle.lock_records.specs.declared.holders.HolderRecord.{HolderRecord}
 use Rattle.lock_records.specs.declared.wait_queues.QueueRecord.{QueueRecord}
 
--- for how many records of each kind there is room, for how many waits in the queue of the next new record, for how many names of those whom a wakeup grants, and for how many places the index has
-pub record Capacity : Type 0 where
-  pub locks : ℕ
-  pub holders : ℕ
-  pub queues : ℕ
-  pub spare : ℕ
-  pub woken : ℕ
-  pub places : ℕ
-
 -- what contracts see of a `RecordPart` and of its records: its lock records with the place of the next one, its holder records, its
--- queue records, whom the last wakeup granted, for how many there is room, the request that is begun, and the one that room was made for last
+-- queue records, whom the last wakeup granted, the request that is begun, the one that room was made for last, for how many waits there is
+-- room in the queue that the next new queue record takes, and for how many entries there is room
 pub record RecordView : Type 0 where
   pub locks : List (Option LockRecord)
   pub next_lock : ℕ
@@ -27,6 +20,7 @@ pub record RecordView : Type 0 where
   pub woken : List (ℕ × Mode)
   pub begun : Option Request
   pub prepared : Option Request
+  pub spare : ℕ
   pub capacity : Capacity
 
 -- the content that the part stands for
@@ -39,6 +33,6 @@ pub record GrowsWhereFull (old new : RecordView) : Type 0 where
   pub locks : count_by is_some old.locks < old.capacity.locks → new.capacity.locks ≡ old.capacity.locks
   pub holders : count_by is_some old.holders + waiting_in old.queues < old.capacity.holders → new.capacity.holders ≡ old.capacity.holders
   pub queues : count_by is_some old.queues < old.capacity.queues → new.capacity.queues ≡ old.capacity.queues
-  pub spare : 0 < old.capacity.spare → new.capacity.spare ≡ old.capacity.spare
+  pub spare : 0 < old.spare → new.spare ≡ old.spare
   pub woken : waiting_in old.queues < old.capacity.woken → new.capacity.woken ≡ old.capacity.woken
   pub places : old.next_lock < old.capacity.places → new.capacity.places ≡ old.capacity.places

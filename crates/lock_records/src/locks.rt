@@ -209,6 +209,7 @@ pub(crate) fn find_or_make_lock(
     requires places { locks.old.vacant_key < index.old.places }
     ensures noted { AreNoted locks.new.slots index.new }
     ensures made { HasMadeLock locks.old.slots locks.new.slots tag.now result }
+    ensures capacity { (locks.new.capacity ≡ locks.old.capacity) × (index.new.places ≡ index.old.places) }
 {
     if absent {
         return make_lock(locks, index, tag);
@@ -228,6 +229,7 @@ fn make_lock(locks: &mut Slab<LockRecord>, index: &mut PlaceIndex, tag: &Tag) ->
     requires absent { HasNoLock locks.old.slots tag.now }
     ensures noted { AreNoted locks.new.slots index.new }
     ensures made { HasMadeLock locks.old.slots locks.new.slots tag.now result }
+    ensures capacity { (locks.new.capacity ≡ locks.old.capacity) × (index.new.places ≡ index.old.places) }
 {
     let _places = index.places();
     let place = locks.insert_reserved(LockRecord::new(*tag));
@@ -250,6 +252,7 @@ pub(crate) fn drop_empty(
     ensures dropped { IsDropped locks.old.slots locks.new.slots tag.now place }
     ensures room { HasRoomFor locks.old 1 → HasRoomFor locks.new 1 }
     ensures places { locks.old.vacant_key < index.old.places → locks.new.vacant_key < index.new.places }
+    ensures capacity { (locks.new.capacity ≡ locks.old.capacity) × (index.new.places ≡ index.old.places) }
 {
     if locks[place].is_empty() {
         drop_lock(locks, index, tag, place);
@@ -265,6 +268,7 @@ fn drop_lock(locks: &mut Slab<LockRecord>, index: &mut PlaceIndex, tag: &Tag, pl
     ensures same { HasSameLocks locks.old.slots locks.new.slots tag.now }
     ensures room { HasRoomFor locks.new 1 }
     ensures places { locks.new.vacant_key < index.new.places }
+    ensures capacity { (locks.new.capacity ≡ locks.old.capacity) × (index.new.places ≡ index.old.places) }
 {
     let _places = index.places();
     locks.remove(place);

@@ -150,6 +150,7 @@ pub(crate) fn add_hold(
     ensures capacity { holders.new.capacity ≡ holders.old.capacity }
     ensures room { HasRoomFor locks.old 1 → HasRoomFor locks.new 1 }
     ensures key { locks.new.vacant_key ≡ locks.old.vacant_key }
+    ensures locks_capacity { locks.new.capacity ≡ locks.old.capacity }
 {
     let _number = session.number();
     let lock = &mut locks[place];
@@ -179,6 +180,7 @@ pub(crate) fn remove_hold(
     ensures capacity { holders.new.capacity ≡ holders.old.capacity }
     ensures room { HasRoomFor locks.old 1 → HasRoomFor locks.new 1 }
     ensures key { locks.new.vacant_key ≡ locks.old.vacant_key }
+    ensures locks_capacity { locks.new.capacity ≡ locks.old.capacity }
 {
     let _number = session.number();
     let lock = &mut locks[place];
@@ -241,6 +243,7 @@ pub(crate) fn raise_awaited(
         × (counts_in r.is.lock.awaited ≡ one_more (counts_in r.was.lock.awaited) mode) }
     ensures room { HasRoomFor locks.old 1 → HasRoomFor locks.new 1 }
     ensures key { locks.new.vacant_key ≡ locks.old.vacant_key }
+    ensures locks_capacity { locks.new.capacity ≡ locks.old.capacity }
 {
     let lock = &mut locks[place];
     lock.queue = queue;
@@ -256,6 +259,7 @@ pub(crate) fn lower_awaited(locks: &mut Slab<LockRecord>, place: usize, tag: &Ta
         × (counts_in r.is.lock.awaited ≡ one_less (counts_in r.was.lock.awaited) mode) }
     ensures room { HasRoomFor locks.old 1 → HasRoomFor locks.new 1 }
     ensures key { locks.new.vacant_key ≡ locks.old.vacant_key }
+    ensures locks_capacity { locks.new.capacity ≡ locks.old.capacity }
 {
     locks[place].awaited.lower(mode);
 }

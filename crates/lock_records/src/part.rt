@@ -63,6 +63,8 @@ impl PartTable for RecordPart {
 
     ghost woken = { λ part. part.woken };
 
+    ghost capacity = { λ part. part.capacity };
+
     #[inline(always)]
     fn begin(&mut self, session: SessionId, tag: &Tag, mode: Mode) -> Result<(), NoMemory>
         requires new { (content_of self.old).holds session tag.now mode ≡ false }

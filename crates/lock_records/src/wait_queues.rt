@@ -8,7 +8,7 @@ ghost use Rattle.modes_core.specs.Tag.{tag_eq};
 ghost use Rattle.lock_table.specs.Put.{put};
 ghost use Rattle.lock_table.specs.Queue.{joined, waits_there, wait_in, queue_without};
 ghost use Rattle.lock_table.specs.Waiter.{shown_wait};
-ghost use Rattle.lock_records.specs.Queues.{queue_at, is_queue_of, queue_on, waiting_in, IsQueueAt, HasRoomForQueue, HasRoomInQueue, HasSameQueues};
+ghost use Rattle.lock_records.specs.Queues.{queue_at, is_queue_of, queue_on, waiting_in, IsQueueAt, HasSameRoom, HasNoMoreRoom, HasRoomForQueue, HasRoomInQueue, HasSameQueues};
 ghost use Rattle.lock_records.specs.Rows.{AppendsRows, HasMoreRows, awaited_below};
 
 use crate::listing::push_waits;
@@ -153,6 +153,7 @@ impl WaitQueues {
         ensures waits { queue_on self.new.slots ≡ put tag_eq (queue_on self.old.slots) tag.now
             (joined place (shown_wait waiter) (queue_on self.old.slots tag.now)) }
         ensures one_more { waiting_in self.new.slots ≡ waiting_in self.old.slots + 1 }
+        ensures capacity { HasSameRoom self.old self.new }
     {
         match self.slots[at].waiters.insert(place, waiter) {
             Ok(()) => {}
@@ -171,6 +172,7 @@ impl WaitQueues {
         ensures waits { queue_on self.new.slots
             ≡ put tag_eq (queue_on self.old.slots) tag.now (shown_wait waiter ∷ []) }
         ensures one_more { waiting_in self.new.slots ≡ waiting_in self.old.slots + 1 }
+        ensures capacity { HasSameRoom self.old self.new }
     {
         let alloc = *self.spare.allocator();
         let mut waiters = replace(&mut self.spare, Vec::new(alloc));
@@ -191,6 +193,7 @@ impl WaitQueues {
         ensures one_less { waiting_in self.new.slots + 1 ≡ waiting_in self.old.slots }
         ensures room { HasRoomForQueue self.old → HasRoomForQueue self.new }
         ensures in_queue { (other : Tag) → HasRoomInQueue self.old.slots other → HasRoomInQueue self.new.slots other }
+        ensures no_memory_taken { HasNoMoreRoom self.old self.new }
     {
         let place = place_of(self.slots[at].waiters.as_slice(), session);
         self.slots[at].waiters.remove(place);
@@ -235,6 +238,7 @@ fn keep_larger(spare: &mut Vec<Waiter>, gone: Vec<Waiter>)
     requires gone { gone.items ≡ [] }
     ensures empty { spare.new.items ≡ [] }
     ensures capacity { vec_capacity spare.old ≤ vec_capacity spare.new }
+    ensures no_memory_taken { vec_capacity spare.new ≤ vec_capacity spare.old + vec_capacity gone }
 {
     if gone.capacity() > spare.capacity() {
         *spare = gone;
@@ -259,6 +263,7 @@ pub(crate) fn queue_up(
     ensures waits { queue_on queues.new.slots ≡ put tag_eq (queue_on queues.old.slots) tag.now
         (joined place (shown_wait waiter) (queue_on queues.old.slots tag.now)) }
     ensures one_more { waiting_in queues.new.slots ≡ waiting_in queues.old.slots + 1 }
+    ensures capacity { HasSameRoom queues.old queues.new }
 {
     match at {
         Some(at) => {

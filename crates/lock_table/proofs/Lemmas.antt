@@ -20,4 +20,5 @@ pub mod Find
 pub mod Walk
 pub mod Places
 pub mod Parts
+pub mod Capacities
 pub mod PartitionRows

@@ -1,6 +1,7 @@
 pub mod Put
 pub mod Total
 pub mod Content
+pub mod Capacity
 pub mod Clash
 pub mod Request
 pub mod Listing

@@ -1,7 +1,7 @@
 use Rattle.std.specs.Prelude.{◌≡◌, ◌<◌, ◌≤◌, ◌+◌, vec_len, vec_capacity}
 use Rattle.std.specs.Option.{ForSome}
 use Rattle.lock_table.specs.declared.part_lists.PartLists.TheInside.{Inside}
-use Rattle.lock_table.specs.PartView.{PartView}
+use Rattle.lock_table.specs.PartView.{PartView, capacity_of_lists}
 use Rattle.lock_table.specs.PartWaits.{EachOnce, OneWaitEach, times_in}
 
 -- What contracts see of a part with lists.
@@ -12,6 +12,7 @@ view_of part = record {
   woken = part.woken.items;
   begun = part.begun;
   prepared = part.prepared;
+  capacity = capacity_of_lists (vec_capacity part.holds) (vec_capacity part.waits) (vec_capacity part.woken);
 }
 
 -- Each request is held or awaited once at most, a session waits once at most on an object, and a begun request is new. There is room for the

@@ -4,13 +4,13 @@ use Rattle.modes_core.specs.declared.tags.Tag.{Tag}
 use Rattle.modes_core.specs.Tag.{partition_of}
 use Rattle.lock_table.specs.Content.{Content, empty_content}
 use Rattle.lock_table.specs.declared.request.Request.{Request}
-use Rattle.lock_table.specs.PartView.{PartView, content_of}
+use Rattle.lock_table.specs.PartView.{PartView, content_of, capacity_of_lists}
 
 -- The partitions of a lock table, as a list of parts, the partition with number 0 first.
 
 -- a partition with nothing in it
 abbrev pub no_part : PartView
-no_part = record { holds = []; waits = []; woken = []; begun = None; prepared = None }
+no_part = record { holds = []; waits = []; woken = []; begun = None; prepared = None; capacity = capacity_of_lists 0 0 0 }
 
 -- the part with this number
 abbrev pub part_at : List PartView → ℕ → PartView

@@ -1,7 +1,7 @@
 //! What a `PlainPart` has on the heap. A function that looks through a list copies the tag first, so that it is not
 //! read again at each place.
 
-ghost use Rattle.std.specs.Prelude.{◌≡◌, ◌<◌, true, length};
+ghost use Rattle.std.specs.Prelude.{◌≡◌, ◌<◌, true, length, IfOk, vec_len, vec_capacity};
 ghost use Rattle.std.specs.List.{list_any, HoldsAt};
 ghost use Rattle.lock_table.specs.Clash.{lower_holder_of};
 ghost use Rattle.lock_table.specs.Request.{is_request_of};
@@ -43,11 +43,19 @@ impl Model for PartLists {
 
 impl PartLists {
     ghost use Rattle.lock_table.specs.PartWaits.{EachOnce};
+    ghost use Rattle.lock_table.specs.PartView.{capacity_of_lists};
     ghost use Rattle.std.specs.Prelude.{◌≡◌, [], None};
 
     /// A partition's lists with nothing in them, which grow by `alloc`.
     pub fn new(alloc: Global) -> Self
-        ensures { result ≡ record { holds = []; waits = []; woken = []; begun = None; prepared = None } }
+        ensures { result ≡ record {
+          holds = [];
+          waits = [];
+          woken = [];
+          begun = None;
+          prepared = None;
+          capacity = capacity_of_lists 0 0 0;
+        } }
     {
         PartLists {
             holds: Vec::new(alloc),
@@ -79,17 +87,10 @@ impl Clone for PartLists {
     ghost is_clone = { λ lists theirs. theirs ≡ lists };
 
     fn clone(&self) -> Result<Self, AllocError> {
-        let alloc = *self.holds.allocator();
-        let mut holds = Vec::from_slice(alloc, self.holds.as_slice())?;
-        let mut waits = Vec::from_slice(alloc, self.waits.as_slice())?;
-        let mut woken = Vec::from_slice(alloc, self.woken.as_slice())?;
-        holds.reserve(self.waits.len() + 1)?;
-        waits.reserve(1)?;
-        woken.reserve(self.waits.len() + 1)?;
         Ok(PartLists {
-            holds,
-            waits,
-            woken,
+            holds: copy_of(&self.holds)?,
+            waits: copy_of(&self.waits)?,
+            woken: copy_of(&self.woken)?,
             begun: self.begun,
             prepared: self.prepared,
         })
@@ -106,6 +107,8 @@ impl PartTable for PartLists {
     ghost prepared = { λ lists. lists.prepared };
 
     ghost woken = { λ lists. lists.woken };
+
+    ghost capacity = { λ lists. lists.capacity };
 
     fn begin(&mut self, session: SessionId, tag: &Tag, mode: Mode) -> Result<(), NoMemory> {
         self.holds.reserve(self.waits.len() + 1)?;
@@ -227,6 +230,19 @@ impl PartTable for PartLists {
         sort_rows(&mut rows[before..]);
         Ok(())
     }
+}
+
+/// A copy of `list` in memory of its own, with room for as many entries as `list` has room for.
+fn copy_of<T: Copy>(list: &Vec<T>) -> Result<Vec<T>, AllocError>
+    ensures items { IfOk result (λ copy. copy.items ≡ list.now.items) }
+    ensures len { IfOk result (λ copy. vec_len copy ≡ vec_len list.now) }
+    ensures capacity { IfOk result (λ copy. vec_capacity copy ≡ vec_capacity list.now) }
+{
+    let mut copy = Vec::with_capacity(*list.allocator(), list.capacity())?;
+    for entry in list {
+        copy.push_reserved(*entry);
+    }
+    Ok(copy)
 }
 
 /// The index in `holds` of the hold of `session` on `tag` in `mode`. The latest holds are at the end, so the search begins at

@@ -3,6 +3,7 @@ ghost use Rattle.modes_core.specs.declared.modes.Mode.{Mode};
 ghost use Rattle.modes_core.specs.ModeSet.{set_has};
 ghost use Rattle.modes_core.specs.Sessions.{most_sessions};
 ghost use Rattle.lock_table.specs.Content.{Wait, Content, add_hold, remove_hold};
+ghost use Rattle.lock_table.specs.Capacity.{Capacity, IsNotAbove};
 ghost use Rattle.lock_table.specs.Clash.{NoConflictingHolder, HolderInTheWay};
 ghost use Rattle.lock_table.specs.Listing.{AppendsListing};
 ghost use Rattle.lock_table.specs.Queue.{Wakes, some_awaits_conflict, awaits_mode, waits_there, wait_in, add_wait, remove_wait};
@@ -16,12 +17,12 @@ use crate::waits::Waiter;
 use modes_core::{Mode, ModeSet, SessionId, Tag};
 
 /// One partition of the lock table, however it keeps its holds and wait queues. Contracts see its `content`, the request that
-/// is `begun` in it, the request for which `begin` made room last, `prepared`, and whose waits its last wakeup granted,
-/// `woken`.
+/// is `begun` in it, the request for which `begin` made room last, `prepared`, whose waits its last wakeup granted, `woken`, and
+/// for how many entries it has memory, its `capacity`.
 ///
 /// A request is made in two steps: `begin` takes all the memory that the request can need, as a wait, as the hold that the wait
 /// becomes, and to name it among those woken; `grant`, `join` or `withdraw`, one of which ends the request, takes no memory,
-/// nor does what ends a hold or a wait.
+/// nor does what ends a hold or a wait: the capacity stays, or is less where an emptied queue's memory is given back.
 pub trait PartTable {
     ghost content: { Self → Content };
 
@@ -30,6 +31,8 @@ pub trait PartTable {
     ghost prepared: { Self → Option Request };
 
     ghost woken: { Self → List (ℕ × Mode) };
+
+    ghost capacity: { Self → Capacity };
 
     /// Makes room and records for the request of `session` for `tag` in `mode` (`SetupLockInTable` in lock.c). After `NoMemory`
     /// the partition is as before.
@@ -48,13 +51,15 @@ pub trait PartTable {
         requires begun { begun self.old ≡ Some (record { session = session; tag = tag.now; mode = mode }) }
         ensures content { content self.new ≡ content self.old }
         ensures prepared { prepared self.new ≡ prepared self.old }
-        ensures ended { begun self.new ≡ None };
+        ensures ended { begun self.new ≡ None }
+        ensures capacity { capacity self.new ≡ capacity self.old };
 
     /// Makes the begun request of `session` for `tag` in `mode` a hold (`GrantLock` in lock.c).
     fn grant(&mut self, session: SessionId, tag: &Tag, mode: Mode)
         requires begun { begun self.old ≡ Some (record { session = session; tag = tag.now; mode = mode }) }
         ensures content { content self.new ≡ add_hold (content self.old) session tag.now mode }
-        ensures ended { begun self.new ≡ None };
+        ensures ended { begun self.new ≡ None }
+        ensures capacity { capacity self.new ≡ capacity self.old };
 
     /// Takes the hold of `session` on `tag` in `mode` out of the partition, and answers whether somebody awaits the object in a
     /// mode in conflict with `mode` (`UnGrantLock` in lock.c, whose answer is whether a wakeup is needed).
@@ -62,7 +67,8 @@ pub trait PartTable {
         requires held { (content self.old).holds session tag.now mode ≡ true }
         ensures awaited { result ≡ some_awaits_conflict ((content self.old).waits tag.now) mode }
         ensures content { content self.new ≡ remove_hold (content self.old) session tag.now mode }
-        ensures begun { begun self.new ≡ begun self.old };
+        ensures begun { begun self.new ≡ begun self.old }
+        ensures capacity { capacity self.new ≡ capacity self.old };
 
     /// The modes in which `session` holds `tag` (`holdMask` of `PROCLOCK` in lock.h).
     fn held(&self, session: SessionId, tag: &Tag) -> ModeSet
@@ -111,14 +117,16 @@ pub trait PartTable {
         requires no_wait { waits_there ((content self.old).waits tag.now) session ≡ false }
         requires place { place ≤ length ((content self.old).waits tag.now) }
         ensures content { content self.new ≡ add_wait (content self.old) session tag.now mode place }
-        ensures ended { begun self.new ≡ None };
+        ensures ended { begun self.new ≡ None }
+        ensures capacity { capacity self.new ≡ capacity self.old };
 
     /// Takes the wait of `session` out of the queue of `tag` (`RemoveFromWaitQueue` in lock.c), and answers for which mode that
     /// wait was, or `None` where there was no wait.
     fn leave(&mut self, session: SessionId, tag: &Tag) -> Option<Mode>
         ensures mode { result ≡ option_map (λ wait. wait.mode) (wait_in ((content self.old).waits tag.now) session) }
         ensures content { content self.new ≡ remove_wait (content self.old) session tag.now }
-        ensures begun { begun self.new ≡ begun self.old };
+        ensures begun { begun self.new ≡ begun self.old }
+        ensures no_memory_taken { IsNotAbove (capacity self.old) (capacity self.new) };
 
     /// Grants each wait of the queue of `tag` that is free to go, and notes for `woken` whose waits these are (`ProcLockWakeup`
     /// in proc.c). No memory is taken.
@@ -126,7 +134,8 @@ pub trait PartTable {
         ensures woken { (granted : List Wait)
             × Wakes (content self.old) tag.now granted (content self.new)
             × (woken self.new ≡ map whose_and_mode granted) }
-        ensures begun { begun self.new ≡ begun self.old };
+        ensures begun { begun self.new ≡ begun self.old }
+        ensures no_memory_taken { IsNotAbove (capacity self.old) (capacity self.new) };
 
     /// Whose waits the last `wake` granted, with the modes that they awaited, in the order of granting. Another call on the
     /// partition may change this list.

@@ -101,6 +101,8 @@ impl PartTable for PlainPart {
 
     ghost woken = { λ part. part.woken };
 
+    ghost capacity = { λ part. part.capacity };
+
     fn begin(&mut self, session: SessionId, tag: &Tag, mode: Mode) -> Result<(), NoMemory> {
         self.lists.begin(session, tag, mode)
     }

@@ -27,6 +27,7 @@ pub fn take_hold_out<P: PartTable>(part: &mut P, session: SessionId, tag: &Tag, 
         Wakes (P.content part.new) tag.now granted after →
         Moves (P.content part.old) session (Release tag.now mode) granted after }
     ensures begun { P.begun part.new ≡ P.begun part.old }
+    ensures capacity { P.capacity part.new ≡ P.capacity part.old }
 {
     part.ungrant(session, tag, mode)
 }

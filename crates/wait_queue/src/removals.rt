@@ -1,6 +1,7 @@
 ghost use Rattle.std.specs.Prelude.{◌≡◌, not, List, map};
 ghost use Rattle.std.specs.Bool.{OnTrue, OnFalse};
 ghost use Rattle.lock_table.specs.Content.{Wait};
+ghost use Rattle.lock_table.specs.Capacity.{IsNotAbove};
 ghost use Rattle.lock_table.specs.Queue.{waits_there, remove_wait, Wakes};
 ghost use Rattle.lock_table.specs.Waiter.{whose_and_mode};
 
@@ -17,6 +18,7 @@ pub fn remove_waiter<P: PartTable>(part: &mut P, session: SessionId, tag: &Tag) 
         × (P.woken part.new ≡ map whose_and_mode granted)) }
     ensures unchanged { OnTrue result (P.content part.new ≡ P.content part.old) }
     ensures begun { P.begun part.new ≡ P.begun part.old }
+    ensures no_memory_taken { IsNotAbove (P.capacity part.old) (P.capacity part.new) }
 {
     match part.leave(session, tag) {
         None => true,

@@ -78,6 +78,7 @@ fn decide_begun<P: PartTable>(
     ensures unchanged { OnErr result (P.content part.new ≡ P.content part.old) }
     ensures at_once { kind ≡ Kind.Conditional → result ≢ Ok Decision.Queued }
     ensures ended { P.begun part.new ≡ None }
+    ensures capacity { P.capacity part.new ≡ P.capacity part.old }
 {
     let Some(clash) = clash_with_begun(part, session, tag, mode) else {
         part.grant(session, tag, mode);
@@ -120,6 +121,7 @@ fn end_by_place<P: PartTable>(
     ensures room { OnErr result (P.prepared part.new ≡ P.prepared part.old) }
     ensures unchanged { OnErr result (P.content part.new ≡ P.content part.old) }
     ensures ended { P.begun part.new ≡ None }
+    ensures capacity { P.capacity part.new ≡ P.capacity part.old }
 {
     match answer_by_place(part, session, tag, mode) {
         Answer::Queued(place) => {

@@ -13,9 +13,9 @@ use Rattle.lock_table.specs.declared.waits.Waiter.{Waiter}
 use Rattle.lock_table.proofs.Lemmas.HoldLists.{count_by-cons}
 use Rattle.lock_table.proofs.Lemmas.Lists.{any-counted}
 use Rattle.lock_records.specs.declared.wait_queues.QueueRecord.{QueueRecord}
-use Rattle.lock_records.specs.Queues.{queue_at, is_queue_of, waits_at, queue_on, waits_of, waiting_in, IsQueueAt, AreQueues, HasRoomInQueue}
+use Rattle.lock_records.specs.Queues.{queue_at, is_queue_of, waits_at, queue_on, waits_of, total_of, waiting_in, IsQueueAt, AreQueues, HasRoomInQueue}
 use Rattle.lock_records.proofs.Lemmas.Queues.{without-nobody}
-use Rattle.lock_records.proofs.Lemmas.QueueWrites.{queue-record, is_queue-at, queue-is, queue-absent, no-queue, somebody-there, its-alone, queue-put, total-written, queues-rewritten, queues-more, queues-less}
+use Rattle.lock_records.proofs.Lemmas.QueueWrites.{queue-record, is_queue-at, queue-is, queue-absent, no-queue, somebody-there, its-alone, queue-put, waiting-written, queues-rewritten, queues-more, queues-less}
 
 -- A wait more and a wait less in the list of a record.
 pub shown-joined : (ws : List Waiter) (place : ℕ) (w : Waiter) → map shown_wait (insert ws place w) ≡ joined place (shown_wait w) (map shown_wait ws)
@@ -94,7 +94,7 @@ module _ (old new : List (Option QueueRecord)) (t : Tag) (k : ℕ) (q r : QueueR
         (queue-is new t k requeued-are (record { queue = r; there = here; on = still }) ∙ is)
 
     pub requeued-total : waiting_in new + length q.waiters.items ≡ waiting_in old + length r.waiters.items
-    requeued-total = let sum = total-written old new k others in let was = counted-at old k q there in let now = counted-at new k r here in omega arith
+    requeued-total = let sum = waiting-written old new k others in let was = counted-at old k q there in let now = counted-at new k r here in omega arith
 
     is-it : (o : Tag) (j : ℕ) (i : IsQueueAt new o j) → j ≡ k → i.queue ≡ r
     is-it o j i e = queue-record new k i.queue r (ap (queue_at new) (sym e) ∙ i.there) here
@@ -144,7 +144,7 @@ module _ (old new : List (Option QueueRecord)) (t : Tag) (k : ℕ) (q r : QueueR
         ]
 
     pub dropped-total : waiting_in new + length q.waiters.items ≡ waiting_in old
-    dropped-total = let sum = total-written old new k others in let was = counted-at old k q there in let now = uncounted-at new k gone in omega arith
+    dropped-total = let sum = waiting-written old new k others in let was = counted-at old k q there in let now = uncounted-at new k gone in omega arith
 
 -- The first record of an object.
 module _ (old new : List (Option QueueRecord)) (t : Tag) (k : ℕ) (r : QueueRecord) (are : AreQueues old) (none : queue_on old t ≡ []) (vacant : queue_at old k ≡ None) (here : queue_at new k ≡ Some r) (on : r.tag ≡ t) (filled : r.waiters.items ≢ []) (others : (j : ℕ) → j ≢ k → queue_at new j ≡ queue_at old j) where
@@ -157,7 +157,7 @@ module _ (old new : List (Option QueueRecord)) (t : Tag) (k : ℕ) (r : QueueRec
       (queue-is new t k started-are (record { queue = r; there = here; on = on }) ∙ is)
 
   pub started-total : waiting_in new ≡ waiting_in old + length r.waiters.items
-  started-total = let sum = total-written old new k others in let was = uncounted-at old k vacant in let now = counted-at new k r here in omega arith
+  started-total = let sum = waiting-written old new k others in let was = uncounted-at old k vacant in let now = counted-at new k r here in omega arith
 
 -- The queue that is left without a session's wait.
 pub left-shown : (old : List (Option QueueRecord)) (t : Tag) (k : ℕ) (q : QueueRecord) (ws : List Waiter) (s place : ℕ) → AreQueues old → queue_at old k ≡ Some q → q.tag ≡ t → ws ≡ remove q.waiters.items place →
@@ -181,7 +181,7 @@ shown-none t (Some q) none =
       nothing (w ∷ ws) none = absurd (omega arith)
 
 pub nobody-waits : (slots : List (Option QueueRecord)) (t : Tag) → waiting_in slots ≡ 0 → queue_on slots t ≡ []
-unfolding waiting_in queue_on
+unfolding total_of queue_on
 nobody-waits [] t none = refl
 nobody-waits (s ∷ slots) t none =
     ap (λ ws. ws ++ queue_on slots t) (shown-none t s (let here : waits_of s ≡ 0 = omega arith in here)) ∙ nobody-waits slots t (let rest : waiting_in slots ≡ 0 = omega arith in rest)

@@ -1,4 +1,4 @@
-use Rattle.std.proofs.Common.{◌≡◌, ◌≢◌, ℕ, zero, suc, ◌+◌, ◌<◌, true, false, List, [], ◌∷◌, ◌++◌, length, map, Option, Some, None, arith, refl, sym, ap, ◌∙◌, inl, inr}
+use Rattle.std.proofs.Common.{◌≡◌, ◌≢◌, ℕ, zero, suc, ◌+◌, ◌<◌, vec_capacity, true, false, List, [], ◌∷◌, ◌++◌, length, map, Option, Some, None, arith, refl, sym, ap, ◌∙◌, inl, inr}
 use Rattle.std.proofs.Math.ListN.{set}
 use Rattle.std.specs.Prelude.{count_by, is_some, if◌then◌else◌}
 use Rattle.std.proofs.lemmas.Bool.{cases_Bool, cases_eq, cases_lt, false≢true, false_from_ne_true, cond-true, cond-false}
@@ -14,7 +14,7 @@ use Rattle.lock_table.proofs.Lemmas.Options.{one_some}
 use Rattle.lock_table.proofs.Lemmas.Put.{put_here, put_else}
 use Rattle.lock_table.proofs.Lemmas.HoldLists.{count_by-cons}
 use Rattle.lock_records.specs.declared.wait_queues.QueueRecord.{QueueRecord}
-use Rattle.lock_records.specs.Queues.{queue_at, is_queue_of, waits_at, queue_on, waits_of, waiting_in, IsQueueAt, AreQueues, QueuesView, HasSameQueues}
+use Rattle.lock_records.specs.Queues.{queue_at, is_queue_of, waits_at, queue_on, waits_of, room_of, total_of, waiting_in, room_in, IsQueueAt, AreQueues, QueuesView, HasSameQueues}
 
 -- Lists of places that show the same waits of an object.
 pub queue-same : (old new : List (Option QueueRecord)) (t : Tag) → ((j : ℕ) → waits_at t (queue_at new j) ≡ waits_at t (queue_at old j)) → queue_on new t ≡ queue_on old t
@@ -96,57 +96,87 @@ queue-put old new t k queue written is = λ i o. at o i where
         ]) ∙ sym (put_else tag_eq (queue_on old) t queue o other)
       ]
 
--- How many wait, after a write.
-total-same : (old new : List (Option QueueRecord)) → ((j : ℕ) → queue_at new j ≡ queue_at old j) → waiting_in new ≡ waiting_in old
-unfolding waiting_in
-total-same [] [] same = refl
-total-same [] (s ∷ new) same =
-    let here : waits_of s ≡ 0 = ap waits_of (same 0) in
-    let rest : waiting_in new ≡ 0 = total-same [] new (λ j. same (suc j)) in
-    omega arith
-total-same (s ∷ old) [] same =
-    let here : 0 ≡ waits_of s = ap waits_of (same 0) in
-    let rest : 0 ≡ waiting_in old = total-same old [] (λ j. same (suc j)) in
-    omega arith
-total-same (s ∷ old) (s' ∷ new) same =
-    let here : waits_of s' ≡ waits_of s = ap waits_of (same 0) in
-    let rest : waiting_in new ≡ waiting_in old = total-same old new (λ j. same (suc j)) in
-    omega arith
+-- What all places have together, after a write.
+module _ (one : Option QueueRecord → ℕ) (nothing : one None ≡ 0) where
+  total-same : (old new : List (Option QueueRecord)) → ((j : ℕ) → queue_at new j ≡ queue_at old j) → total_of one new ≡ total_of one old
+  unfolding total_of
+  total-same [] [] same = refl
+  total-same [] (s ∷ new) same =
+      let here : one s ≡ 0 = ap one (same 0) ∙ nothing in
+      let rest : total_of one new ≡ 0 = total-same [] new (λ j. same (suc j)) in
+      omega arith
+  total-same (s ∷ old) [] same =
+      let here : 0 ≡ one s = sym nothing ∙ ap one (same 0) in
+      let rest : 0 ≡ total_of one old = total-same old [] (λ j. same (suc j)) in
+      omega arith
+  total-same (s ∷ old) (s' ∷ new) same =
+      let here : one s' ≡ one s = ap one (same 0) in
+      let rest : total_of one new ≡ total_of one old = total-same old new (λ j. same (suc j)) in
+      omega arith
 
-pub total-written : (old new : List (Option QueueRecord)) (k : ℕ) → ((j : ℕ) → j ≢ k → queue_at new j ≡ queue_at old j) → waiting_in new + waits_of (queue_at old k) ≡ waiting_in old + waits_of (queue_at new k)
-unfolding waiting_in
-total-written [] [] k others = refl
-total-written [] (s ∷ new) zero others =
-    let rest : waiting_in new ≡ 0 = total-same [] new (λ j. others (suc j) (λ e. omega arith)) in
-    let sum : waits_of s + waiting_in new + 0 ≡ 0 + waits_of s = omega arith in
-    sum
-total-written [] (s ∷ new) (suc k) others =
-    let here : waits_of s ≡ 0 = ap waits_of (others 0 (λ e. omega arith)) in
-    let rest : waiting_in new + 0 ≡ 0 + waits_of (queue_at new k) = total-written [] new k (λ j other. others (suc j) (λ e. other (omega arith))) in
-    let sum : waits_of s + waiting_in new + 0 ≡ 0 + waits_of (queue_at new k) = omega arith in
-    sum
-total-written (s ∷ old) [] zero others =
-    let rest : 0 ≡ waiting_in old = total-same old [] (λ j. others (suc j) (λ e. omega arith)) in
-    let sum : 0 + waits_of s ≡ waits_of s + waiting_in old + 0 = omega arith in
-    sum
-total-written (s ∷ old) [] (suc k) others =
-    let here : 0 ≡ waits_of s = ap waits_of (others 0 (λ e. omega arith)) in
-    let rest : 0 + waits_of (queue_at old k) ≡ waiting_in old + 0 = total-written old [] k (λ j other. others (suc j) (λ e. other (omega arith))) in
-    let sum : 0 + waits_of (queue_at old k) ≡ waits_of s + waiting_in old + 0 = omega arith in
-    sum
-total-written (s ∷ old) (s' ∷ new) zero others =
-    let rest : waiting_in new ≡ waiting_in old = total-same old new (λ j. others (suc j) (λ e. omega arith)) in
-    let sum : waits_of s' + waiting_in new + waits_of s ≡ waits_of s + waiting_in old + waits_of s' = omega arith in
-    sum
-total-written (s ∷ old) (s' ∷ new) (suc k) others =
-    let here : waits_of s' ≡ waits_of s = ap waits_of (others 0 (λ e. omega arith)) in
-    let rest : waiting_in new + waits_of (queue_at old k) ≡ waiting_in old + waits_of (queue_at new k) = total-written old new k (λ j other. others (suc j) (λ e. other (omega arith))) in
-    let sum : waits_of s' + waiting_in new + waits_of (queue_at old k) ≡ waits_of s + waiting_in old + waits_of (queue_at new k) = omega arith in
-    sum
+  pub total-written : (old new : List (Option QueueRecord)) (k : ℕ) → ((j : ℕ) → j ≢ k → queue_at new j ≡ queue_at old j) → total_of one new + one (queue_at old k) ≡ total_of one old + one (queue_at new k)
+  unfolding total_of
+  total-written [] [] k others = refl
+  total-written [] (s ∷ new) zero others =
+      let rest : total_of one new ≡ 0 = total-same [] new (λ j. others (suc j) (λ e. omega arith)) in
+      let sum : one s + total_of one new + one None ≡ 0 + one s = omega (arith, nothing) in
+      sum
+  total-written [] (s ∷ new) (suc k) others =
+      let here : one s ≡ 0 = ap one (others 0 (λ e. omega arith)) ∙ nothing in
+      let rest : total_of one new + one None ≡ 0 + one (queue_at new k) = total-written [] new k (λ j other. others (suc j) (λ e. other (omega arith))) in
+      let sum : one s + total_of one new + one None ≡ 0 + one (queue_at new k) = omega arith in
+      sum
+  total-written (s ∷ old) [] zero others =
+      let rest : 0 ≡ total_of one old = total-same old [] (λ j. others (suc j) (λ e. omega arith)) in
+      let sum : 0 + one s ≡ one s + total_of one old + one None = omega (arith, nothing) in
+      sum
+  total-written (s ∷ old) [] (suc k) others =
+      let here : 0 ≡ one s = sym nothing ∙ ap one (others 0 (λ e. omega arith)) in
+      let rest : 0 + one (queue_at old k) ≡ total_of one old + one None = total-written old [] k (λ j other. others (suc j) (λ e. other (omega arith))) in
+      let sum : 0 + one (queue_at old k) ≡ one s + total_of one old + one None = omega arith in
+      sum
+  total-written (s ∷ old) (s' ∷ new) zero others =
+      let rest : total_of one new ≡ total_of one old = total-same old new (λ j. others (suc j) (λ e. omega arith)) in
+      let sum : one s' + total_of one new + one s ≡ one s + total_of one old + one s' = omega arith in
+      sum
+  total-written (s ∷ old) (s' ∷ new) (suc k) others =
+      let here : one s' ≡ one s = ap one (others 0 (λ e. omega arith)) in
+      let rest : total_of one new + one (queue_at old k) ≡ total_of one old + one (queue_at new k) = total-written old new k (λ j other. others (suc j) (λ e. other (omega arith))) in
+      let sum : one s' + total_of one new + one (queue_at old k) ≡ one s + total_of one old + one (queue_at new k) = omega arith in
+      sum
 
-pub total-none : waiting_in [] ≡ 0
-unfolding waiting_in
-total-none = refl
+pub waiting-none : waiting_in [] ≡ 0
+unfolding total_of
+waiting-none = refl
+
+-- How many waits there are, and for how many there is room, after a write.
+pub waiting-written : (old new : List (Option QueueRecord)) (k : ℕ) → ((j : ℕ) → j ≢ k → queue_at new j ≡ queue_at old j) → waiting_in new + waits_of (queue_at old k) ≡ waiting_in old + waits_of (queue_at new k)
+waiting-written = total-written waits_of refl
+
+room-written : (old new : List (Option QueueRecord)) (k : ℕ) → ((j : ℕ) → j ≢ k → queue_at new j ≡ queue_at old j) → room_in new + room_of (queue_at old k) ≡ room_in old + room_of (queue_at new k)
+room-written = total-written room_of refl
+
+module _ (old new : List (Option QueueRecord)) (k : ℕ) (others : (j : ℕ) → j ≢ k → queue_at new j ≡ queue_at old j) where
+  pub room-rewritten : (q r : QueueRecord) → queue_at old k ≡ Some q → queue_at new k ≡ Some r → vec_capacity r.waiters ≡ vec_capacity q.waiters → room_in new ≡ room_in old
+  room-rewritten q r there here same =
+      let sum = room-written old new k others in
+      let was : room_of (queue_at old k) ≡ vec_capacity q.waiters = ap room_of there in
+      let now : room_of (queue_at new k) ≡ vec_capacity r.waiters = ap room_of here in
+      omega arith
+
+  pub room-started : (r : QueueRecord) → queue_at old k ≡ None → queue_at new k ≡ Some r → room_in new ≡ room_in old + vec_capacity r.waiters
+  room-started r vacant here =
+      let sum = room-written old new k others in
+      let was : room_of (queue_at old k) ≡ 0 = ap room_of vacant in
+      let now : room_of (queue_at new k) ≡ vec_capacity r.waiters = ap room_of here in
+      omega arith
+
+  pub room-dropped : (q : QueueRecord) → queue_at old k ≡ Some q → queue_at new k ≡ None → room_in new + vec_capacity q.waiters ≡ room_in old
+  room-dropped q there gone =
+      let sum = room-written old new k others in
+      let was : room_of (queue_at old k) ≡ vec_capacity q.waiters = ap room_of there in
+      let now : room_of (queue_at new k) ≡ 0 = ap room_of gone in
+      omega arith
 
 pub queues-none : AreQueues []
 queues-none = record {

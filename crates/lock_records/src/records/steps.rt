@@ -19,6 +19,7 @@ impl Records {
     ghost use Rattle.modes_core.specs.declared.modes.Mode.{Mode};
     ghost use Rattle.modes_core.specs.ModeSet.{set_has};
     ghost use Rattle.lock_table.specs.Content.{add_hold};
+    ghost use Rattle.lock_table.specs.Capacity.{IsNotAbove};
     ghost use Rattle.lock_table.specs.Clash.{NoConflictingHolder, HolderInTheWay};
     ghost use Rattle.lock_table.specs.Queue.{awaits_mode, remove_wait, conflicts_with_some};
     ghost use Rattle.lock_records.specs.View.{content_of};
@@ -88,6 +89,7 @@ impl Records {
         ensures one_less { waiting_in self.new.queues + 1 ≡ waiting_in self.old.queues }
         ensures woken { self.new.woken ≡ self.old.woken }
         ensures woken_room { self.new.capacity.woken ≡ self.old.capacity.woken }
+        ensures no_memory_taken { IsNotAbove self.old.capacity self.new.capacity }
     {
         let Some(at) = self.queue_of(tag) else {
             unreachable!()

@@ -1,4 +1,5 @@
 use Rattle.std.proofs.Common.{not, sym, ap, ◌∙◌}
+use Rattle.lock_table.proofs.Lemmas.Capacities.{not_above-then}
 use Rattle.lock_table.proofs.Lemmas.Queues.{waits_there-mode}
 use Rattle.wait_queue.proofs.Lemmas.Removal.{remove_wait-none}
 use Rattle.wait_queue.proofs.removals.remove_waiter.Goals as goal
@@ -13,3 +14,6 @@ returns-in-None-clause-unchanged g c =
 
 pub returns-in-Some-clause-found : goal.returns-in-Some-clause-found
 returns-in-Some-clause-found g c = ap not (waits_there-mode ((g.P.PartTable.content c.args.part.now).waits c.args.tag.now) c.args.session _ c.in-Some.ensures.mode)
+
+pub returns-in-Some-clause-no_memory_taken : goal.returns-in-Some-clause-no_memory_taken
+returns-in-Some-clause-no_memory_taken g c = not_above-then _ _ _ c.in-Some.ensures.no_memory_taken c.wake.ensures.no_memory_taken

@@ -99,3 +99,15 @@ invariant_of-self c =
 
 pub returns-clause-content : goal.returns-clause-content
 returns-clause-content c = rw (← c.self.view_is) (λ i. record { holds = c.add_hold.ensures.set.holds i; waits = c.leave.ensures.waits i })
+
+pub returns-clause-no_memory_taken : goal.returns-clause-no_memory_taken
+returns-clause-no_memory_taken c =
+    rw (← c.self.view_is)
+    (record {
+      locks = omega (arith, c.add_hold.ensures.locks_capacity, c.lower_awaited.ensures.locks_capacity);
+      holders = omega (arith, c.add_hold.ensures.capacity);
+      queues = omega (arith, c.leave.ensures.no_memory_taken.records);
+      waits = c.leave.ensures.no_memory_taken.waits;
+      woken = omega arith;
+      places = omega arith;
+    })

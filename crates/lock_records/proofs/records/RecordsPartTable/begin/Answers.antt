@@ -14,7 +14,8 @@ use Rattle.lock_records.specs.declared.holders.HolderRecord.{HolderRecord}
 use Rattle.lock_records.specs.Holders.{holds_in}
 use Rattle.lock_records.specs.Locks.{AreNoted, HasNoLock, IsLockAt}
 use Rattle.lock_records.specs.Objects.{HasRoom, AreObjects, IsObject}
-use Rattle.lock_records.specs.View.{RecordView, Capacity, GrowsWhereFull}
+use Rattle.lock_table.specs.Capacity.{Capacity}
+use Rattle.lock_records.specs.View.{RecordView, GrowsWhereFull}
 use Rattle.lock_records.proofs.Lemmas.Parts.{objects-same, noted-grown, one-said}
 use Rattle.lock_records.proofs.records.RecordsPartTable.begin.Goals as goal
 use Rattle.lock_records.proofs.records.RecordsPartTable.begin.Goals.{After-make_room, After-make_room_to_wait}
@@ -154,22 +155,22 @@ invariant_of-self-2 c =
 
 -- each slab, list and the index grew only where it was full
 grows :
-    (c : After-make_room) (queues spare : ℕ) (new : RecordView) → queues ≡ c.make_room.new.queues.capacity → spare ≡ c.make_room.new.queues.spare →
+    (c : After-make_room) (queues waits : ℕ) (new : RecordView) → queues ≡ c.make_room.new.queues.capacity → new.spare ≡ c.make_room.new.queues.spare →
     new.capacity ≡ record {
       locks = c.make_room.new.locks.capacity;
       holders = c.make_room.new.holders.capacity;
       queues = queues;
-      spare = spare;
+      waits = waits;
       woken = vec_capacity c.make_room.new.woken;
       places = c.make_room.new.index.places;
     } → GrowsWhereFull c.args.self.now new
-grows c queues spare new same_queues same_spare is =
+grows c queues waits new same_queues same_spare is =
     subst (λ (old : RecordView). GrowsWhereFull old new) c.self.view_is
     (record {
       locks = λ room. ap (λ (x : Capacity). x.locks) is ∙ c.make_room.ensures.locks_grow (omega (arith, room));
       holders = λ room. ap (λ (x : Capacity). x.holders) is ∙ c.make_room.ensures.holders_grow (omega (arith, room));
       queues = λ room. ap (λ (x : Capacity). x.queues) is ∙ same_queues ∙ c.make_room.ensures.queues_grow room;
-      spare = λ room. ap (λ (x : Capacity). x.spare) is ∙ same_spare ∙ c.make_room.ensures.spare_grows room;
+      spare = λ room. same_spare ∙ c.make_room.ensures.spare_grows room;
       woken = λ room. ap (λ (x : Capacity). x.woken) is ∙ c.make_room.ensures.woken_grows room;
       places = λ room. ap (λ (x : Capacity). x.places) is ∙ c.make_room.ensures.index_grows room;
     })

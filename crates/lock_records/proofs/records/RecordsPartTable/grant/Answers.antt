@@ -1,7 +1,7 @@
-use Rattle.std.proofs.Common.{◌≡◌, ◌<◌, vec_capacity, false, ap, ◌∙◌, arith}
+use Rattle.std.proofs.Common.{◌≡◌, ◌<◌, ◌+◌, vec_capacity, false, ap, ◌∙◌, arith}
 use Rattle.lock_table.specs.declared.request.Request.{Request}
 use Rattle.lock_table.specs.Queue.{awaits_mode}
-use Rattle.lock_records.specs.Queues.{HasRoomInQueue, queue_on, waiting_in}
+use Rattle.lock_records.specs.Queues.{HasRoomInQueue, queue_on, waiting_in, room_in}
 use Rattle.lock_records.specs.Holders.{holds_in}
 use Rattle.lock_records.specs.Objects.{HasRoom}
 use Rattle.lock_records.specs.View.{RecordView}
@@ -45,3 +45,15 @@ pub find_or_make_lock-place-requires-clause-absent : goal.find_or_make_lock-plac
 find_or_make_lock-place-requires-clause-absent c absent =
     let begun = ap (λ (part : RecordView). part.begun) c.self.view_is ∙ c.requires.begun in
     c.self.invariant.absent absent _ begun
+
+pub returns-clause-capacity : goal.returns-clause-capacity
+returns-clause-capacity c =
+    rw (← c.self.view_is)
+    (λ i. record {
+      locks = (c.add_hold.ensures.locks_capacity ∙ c.find_or_make_lock-place.ensures.capacity.0) i;
+      holders = c.add_hold.ensures.capacity i;
+      queues = c.self.inside.queues.capacity;
+      waits = c.self.inside.queues.spare + room_in c.self.inside.queues.slots;
+      woken = vec_capacity c.self.inside.woken;
+      places = c.find_or_make_lock-place.ensures.capacity.1 i;
+    })

@@ -66,3 +66,15 @@ invariant_of-self c =
       absent = λ there. let no_way : ⊥ = cc in absurd no_way;
       known = λ there. let no_way : ⊥ = cc in absurd no_way;
     }
+
+pub returns-clause-capacity : goal.returns-clause-capacity
+returns-clause-capacity c =
+    rw (← c.self.view_is)
+    (λ i. record {
+      locks = (c.raise_awaited.ensures.locks_capacity ∙ c.find_or_make_lock-at.ensures.capacity.0) i;
+      holders = c.self.inside.holders.capacity;
+      queues = c.queue_up-queue.ensures.capacity.records i;
+      waits = c.queue_up-queue.ensures.capacity.waits i;
+      woken = vec_capacity c.self.inside.woken;
+      places = c.find_or_make_lock-at.ensures.capacity.1 i;
+    })

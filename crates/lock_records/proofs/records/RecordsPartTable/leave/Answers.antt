@@ -83,3 +83,15 @@ returns-in_err-mode-clause-content c =
     let none = sym c.awaited_mode.ensures ∙ c.in_err-mode.was in
     let same = unchanged-left c.self.inside.queues.slots c.args.session c.args.tag.now none in
     rw (← c.self.view_is) (λ i. record { holds = holds_in c.self.inside.holders.slots; waits = same i })
+
+pub returns-clause-no_memory_taken : goal.returns-clause-no_memory_taken
+returns-clause-no_memory_taken c =
+    rw (← c.self.view_is)
+    (record {
+      locks = omega (arith, c.drop_empty.ensures.capacity.0, c.lower_awaited.ensures.locks_capacity);
+      holders = omega arith;
+      queues = omega (arith, c.leave.ensures.no_memory_taken.records);
+      waits = c.leave.ensures.no_memory_taken.waits;
+      woken = omega arith;
+      places = omega (arith, c.drop_empty.ensures.capacity.1);
+    })

@@ -1,10 +1,10 @@
-use Rattle.std.proofs.Common.{◌≡◌, ◌<◌, sym, ap, ◌∙◌, arith, inl, inr}
+use Rattle.std.proofs.Common.{◌≡◌, ◌<◌, ◌+◌, vec_capacity, sym, ap, ◌∙◌, arith, inl, inr}
 use Rattle.std.proofs.lemmas.Bool.{cases_Bool}
 use Rattle.modes_core.specs.declared.modes.Mode.{Mode}
 use Rattle.lock_records.specs.declared.locks.LockRecord.{LockRecord}
 use Rattle.lock_records.specs.Counting.{awaited_of}
 use Rattle.lock_records.specs.Tally.{counts_in}
-use Rattle.lock_records.specs.Queues.{queue_on}
+use Rattle.lock_records.specs.Queues.{queue_on, room_in}
 use Rattle.lock_records.proofs.Lemmas.Queues.{some-awaits, none-awaits}
 use Rattle.lock_records.specs.Holders.{holds_in}
 use Rattle.lock_records.specs.View.{RecordView}
@@ -70,3 +70,15 @@ returns-clause-awaited c =
       | inr none ↦
           none ∙ sym (none-awaits (queue_on c.self.inside.queues.slots c.args.tag.now) c.args.mode (λ its hit. sym (counted its) ∙ c.is_awaited-awaited.ensures.none none its hit))
     ])
+
+pub returns-clause-capacity : goal.returns-clause-capacity
+returns-clause-capacity c =
+    rw (← c.self.view_is)
+    (λ i. record {
+      locks = (c.drop_empty.ensures.capacity.0 ∙ c.remove_hold.ensures.locks_capacity) i;
+      holders = c.remove_hold.ensures.capacity i;
+      queues = c.self.inside.queues.capacity;
+      waits = c.self.inside.queues.spare + room_in c.self.inside.queues.slots;
+      woken = vec_capacity c.self.inside.woken;
+      places = c.drop_empty.ensures.capacity.1 i;
+    })

@@ -5,6 +5,7 @@ use Rattle.lock_table.specs.Content.{Wait}
 use Rattle.lock_table.specs.Queue.{awaits_mode}
 use Rattle.lock_records.specs.Queues.{queue_on, waiting_in}
 use Rattle.lock_table.specs.Waiter.{shown_wait}
+use Rattle.lock_table.proofs.Lemmas.Capacities.{not_above-same, not_above-then}
 use Rattle.lock_table.proofs.Lemmas.Walk.{StandFor-none, StandFor-more}
 use Rattle.lock_records.specs.View.{RecordView, content_of}
 use Rattle.lock_records.proofs.Lemmas.Wakings.{WakingTo, waking-start, waking-stay, waking-go, waking-end, seam, behind-some, behind-none, free-from, not-free-from, awaits-middle}
@@ -22,6 +23,7 @@ loop-waiter-init c = (
   StandFor-none (set_has c.empty-ahead.result) c.empty-ahead.ensures,
   ap (λ (part : RecordView). part.begun) c.forget_woken.ensures,
   rw c.forget_woken.ensures (rw (← c.self.view_is) (omega (arith, c.self.invariant.woken_room))),
+  not_above-same _ _ (ap (λ (part : RecordView). part.capacity) c.forget_woken.ensures),
 )
 
 -- the waiter stands behind those that were passed
@@ -72,6 +74,7 @@ loop-waiter-preserved-then-is_free c =
       c.loop-waiter.invariant.4,
       ap (λ (part : RecordView). part.begun) c.note_woken.ensures ∙ c.grant_wait.ensures.begun ∙ c.loop-waiter.invariant.5,
       rw c.note_woken.ensures (omega (arith, named at_grant, length_push c.grant_wait.new.self.woken (c.in-Some.waiter.session, c.in-Some.waiter.mode))),
+      rw c.note_woken.ensures (not_above-then _ _ _ c.loop-waiter.invariant.7 c.grant_wait.ensures.no_memory_taken),
     )
 
 pub loop-waiter-smaller-then-is_free : goal.loop-waiter-smaller-then-is_free
@@ -124,6 +127,7 @@ loop-waiter-preserved c =
       StandFor-more (set_has c.loop-waiter.ahead) (set_has c.with-ahead.result) c.loop-waiter.invariant.0 (shown_wait c.in-Some.waiter) c.loop-waiter.invariant.4 c.with-ahead.ensures,
       c.loop-waiter.invariant.5,
       c.loop-waiter.invariant.6,
+      c.loop-waiter.invariant.7,
     )
 
 pub returns-clause-woken : goal.returns-clause-woken
@@ -136,3 +140,6 @@ returns-clause-woken c =
 
 pub returns-clause-begun : goal.returns-clause-begun
 returns-clause-begun c = c.loop-waiter.invariant.5
+
+pub returns-clause-no_memory_taken : goal.returns-clause-no_memory_taken
+returns-clause-no_memory_taken c = c.loop-waiter.invariant.7

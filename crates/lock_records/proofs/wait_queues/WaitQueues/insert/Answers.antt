@@ -1,4 +1,4 @@
-use Rattle.std.proofs.Common.{◌≡◌, ◌≢◌, ◌+◌, ◌<◌, [], length, vec_len, vec_capacity, map, Some, sym, ap, ◌∙◌, subst, arith}
+use Rattle.std.proofs.Common.{◌≡◌, ◌≢◌, ◌+◌, ◌<◌, ◌≤◌, [], refl, length, vec_len, vec_capacity, map, Some, sym, ap, ◌∙◌, subst, arith}
 use Rattle.std.proofs.Math.ListN.{set}
 use Rattle.std.proofs.lemmas.List.{length-map}
 use Rattle.lock_table.specs.Queue.{joined}
@@ -6,7 +6,7 @@ use Rattle.lock_table.specs.Waiter.{shown_wait}
 use Rattle.lock_records.specs.declared.wait_queues.QueueRecord.{QueueRecord}
 use Rattle.lock_records.specs.Queues.{QueuesView, queue_on, waiting_in, IsQueueAt, HasRoomInQueue}
 use Rattle.lock_records.proofs.Lemmas.QueueRecords.{requeued-are, requeued-queue, requeued-total, shown-joined}
-use Rattle.lock_records.proofs.Lemmas.QueueWrites.{queue-record, queue-is, somebody-there, set-here, set-else}
+use Rattle.lock_records.proofs.Lemmas.QueueWrites.{queue-record, queue-is, somebody-there, set-here, set-else, room-rewritten}
 use Rattle.lock_records.proofs.wait_queues.WaitQueues.insert.Goals as goal
 use Rattle.lock_records.proofs.wait_queues.WaitQueues.insert.Goals.{After-index_mut, In-Ok}
 
@@ -41,14 +41,15 @@ insert-requires c =
     let same = long (goal.at.insert-requires c).After-index_mut in
     omega (arith, same, c.requires.place, c.index_mut.result.now.waiters.ok.0)
 
-pub unreachable-requires : goal.unreachable-requires
-unreachable-requires c =
-    let at = (goal.at.unreachable-requires c).After-index_mut in
-    let its : IsQueueAt c.self.inside.slots.slots c.args.tag.now c.args.at = record { queue = c.index_mut.result.now; there = c.index_mut.ensures.value; on = on at } in
+-- there is room for it in the queue
+less : (c : After-index_mut) → vec_len c.index_mut.result.now.waiters < vec_capacity c.index_mut.result.now.waiters
+less c =
+    let its : IsQueueAt c.self.inside.slots.slots c.args.tag.now c.args.at = record { queue = c.index_mut.result.now; there = c.index_mut.ensures.value; on = on c } in
     let room = subst (λ (view : QueuesView). HasRoomInQueue view.slots c.args.tag.now) (sym c.self.view_is) c.requires.room in
-    let less : vec_len c.index_mut.result.now.waiters < vec_capacity c.index_mut.result.now.waiters =
-    room (somebody-there c.self.inside.slots.slots c.args.tag.now c.args.at c.self.invariant.0 its) c.args.at its in
-    omega (arith, c.in-Err.ensures.full)
+    room (somebody-there c.self.inside.slots.slots c.args.tag.now c.args.at c.self.invariant.0 its) c.args.at its
+
+pub unreachable-requires : goal.unreachable-requires
+unreachable-requires c = omega (arith, less (goal.at.unreachable-requires c).After-index_mut, c.in-Err.ensures.full)
 
 pub invariant_of-self : goal.invariant_of-self
 invariant_of-self c =
@@ -83,3 +84,13 @@ returns-clause-one_more c =
     let here = set-here old c.args.at c.index_mut.result.now (now after) c.index_mut.ensures.value in
     let total = requeued-total old _ c.args.tag.now c.args.at c.index_mut.result.now (now after) c.self.invariant.0 c.index_mut.ensures.value (on at) (set-else old c.args.at (now after)) here (on at) (filled after) in
     rw (← c.self.view_is) (let sum : waiting_in (set old c.args.at (Some (now after))) ≡ waiting_in old + 1 = omega (arith, total, longer after) in sum)
+
+pub returns-clause-capacity : goal.returns-clause-capacity
+returns-clause-capacity c =
+    let at = (goal.at.returns-clause-capacity c).After-index_mut in
+    let after = (goal.at.returns-clause-capacity c).In-Ok in
+    let old = c.self.inside.slots.slots in
+    let room = room-rewritten old (set old c.args.at (Some (now after))) c.args.at (set-else old c.args.at (now after)) c.index_mut.result.now (now after) c.index_mut.ensures.value
+    (set-here old c.args.at c.index_mut.result.now (now after) c.index_mut.ensures.value)
+    (c.in-Ok.ensures.in_place (less at)).1.0 in
+    rw (← c.self.view_is) (record { records = refl; waits = omega (arith, room) })

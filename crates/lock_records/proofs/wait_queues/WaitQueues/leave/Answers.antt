@@ -1,4 +1,4 @@
-use Rattle.std.proofs.Common.{◌≡◌, ◌≢◌, ℕ, ◌+◌, ◌<◌, ◌≤◌, vec_len, Bool, true, false, ◌==◌, Option, None, List, [], ◌∷◌, length, map, Some, refl, sym, ap, ◌∙◌, subst, arith}
+use Rattle.std.proofs.Common.{◌≡◌, ◌≢◌, ℕ, ◌+◌, ◌<◌, ◌≤◌, vec_len, vec_capacity, Bool, true, false, ◌==◌, Option, None, List, [], ◌∷◌, length, map, Some, refl, sym, ap, ◌∙◌, subst, arith}
 use Rattle.std.proofs.Math.ListN.{set}
 use Rattle.std.proofs.lemmas.Bool.{eqb-true, eqb-false}
 use Rattle.std.specs.List.{HoldsAt}
@@ -11,9 +11,9 @@ use Rattle.lock_table.specs.Queue.{waits_there, queue_without}
 use Rattle.lock_table.specs.Waiter.{shown_wait}
 use Rattle.lock_table.specs.declared.waits.Waiter.{Waiter}
 use Rattle.lock_records.specs.declared.wait_queues.QueueRecord.{QueueRecord}
-use Rattle.lock_records.specs.Queues.{QueuesView, queue_at, queue_on, waiting_in, IsQueueAt, AreQueues}
+use Rattle.lock_records.specs.Queues.{QueuesView, queue_at, queue_on, waiting_in, room_in, IsQueueAt, AreQueues}
 use Rattle.lock_records.proofs.Lemmas.QueueRecords.{requeued-are, requeued-queue, counted-at, requeued-room, dropped-room, dropped-are, dropped-queue, dropped-total, left-shown, shown-any}
-use Rattle.lock_records.proofs.Lemmas.QueueWrites.{queue-record, queue-is, total-written, count-set, set-here, set-else}
+use Rattle.lock_records.proofs.Lemmas.QueueWrites.{queue-record, queue-is, waiting-written, count-set, set-here, set-else, room-rewritten, room-dropped}
 use Rattle.lock_records.proofs.wait_queues.WaitQueues.leave.Goals as goal
 use Rattle.lock_records.proofs.wait_queues.WaitQueues.leave.Goals.{After-index, After-remove}
 
@@ -67,7 +67,7 @@ same-count c = count-set c.self.inside.slots.slots c.args.at c.index_mut.result.
 mid-total : (c : After-remove) → waiting_in (mid c) + 1 ≡ waiting_in c.self.inside.slots.slots
 mid-total c =
     let old = c.self.inside.slots.slots in
-    let sum = total-written old (mid c) c.args.at (set-else old c.args.at (left c)) in
+    let sum = waiting-written old (mid c) c.args.at (set-else old c.args.at (left c)) in
     let was = counted-at old c.args.at c.index_mut.result.now c.index_mut.ensures.value in
     let now = counted-at (mid c) c.args.at (left c) (here c) in
     omega (arith, shorter c)
@@ -195,3 +195,23 @@ returns-else-is_empty-clause-in_queue c =
     rw (← c.self.view_is)
     (requeued-room old (mid at) c.args.tag.now c.args.at c.index_mut.result.now (left at) c.self.invariant.0 c.index_mut.ensures.value is (set-else old c.args.at (left at)) (here at) is some
     c.remove.ensures.capacity (let fewer : vec_len c.remove.new.self ≤ vec_len c.index_mut.result.now.waiters = omega (arith, c.remove.ensures.len) in fewer))
+
+-- the queue that is left has room for as many
+mid-room : (c : After-remove) → room_in (mid c) ≡ room_in c.self.inside.slots.slots
+mid-room c =
+    let old = c.self.inside.slots.slots in
+    room-rewritten old (mid c) c.args.at (set-else old c.args.at (left c)) c.index_mut.result.now (left c) c.index_mut.ensures.value (here c)
+    c.remove.ensures.capacity
+
+pub returns-then-is_empty-clause-no_memory_taken : goal.returns-then-is_empty-clause-no_memory_taken
+returns-then-is_empty-clause-no_memory_taken c =
+    let at = (goal.at.returns-then-is_empty-clause-no_memory_taken c).After-remove in
+    let room = room-dropped (mid at) c.remove-gone.new.self.slots c.args.at c.remove-gone.ensures.updates.others (left at) (here at) c.remove-gone.ensures.updates.changed in
+    let gone : vec_capacity c.remove-gone.result.waiters ≡ vec_capacity c.remove.new.self =
+    ap (λ (q : QueueRecord). vec_capacity q.waiters) (queue-record (mid at) c.args.at _ _ c.remove-gone.ensures.value (here at)) in
+    rw (← c.self.view_is) (record { records = c.remove-gone.ensures.capacity; waits = omega (arith, room, gone, mid-room at, c.keep_larger.ensures.no_memory_taken) })
+
+pub returns-else-is_empty-clause-no_memory_taken : goal.returns-else-is_empty-clause-no_memory_taken
+returns-else-is_empty-clause-no_memory_taken c =
+    let at = (goal.at.returns-else-is_empty-clause-no_memory_taken c).After-remove in
+    rw (← c.self.view_is) (record { records = refl; waits = omega (arith, mid-room at) })

@@ -4,6 +4,7 @@ use Rattle.lock_table.specs.Waiter.{shown_wait}
 use Rattle.lock_table.specs.declared.waits.Waiter.{Waiter}
 use Rattle.lock_records.specs.Queues.{QueuesView, queue_on, waiting_in}
 use Rattle.lock_records.proofs.Lemmas.QueueRecords.{started-are, started-queue, started-total}
+use Rattle.lock_records.proofs.Lemmas.QueueWrites.{room-started}
 use Rattle.lock_records.proofs.wait_queues.WaitQueues.start.Goals as goal
 use Rattle.lock_records.proofs.wait_queues.WaitQueues.start.Goals.{After-insert_reserved}
 
@@ -55,3 +56,11 @@ returns-clause-waits c =
 
 pub returns-clause-one_more : goal.returns-clause-one_more
 returns-clause-one_more c = rw (← c.self.view_is) (total (goal.at.returns-clause-one_more c).After-insert_reserved)
+
+pub returns-clause-capacity : goal.returns-clause-capacity
+returns-clause-capacity c =
+    let room = room-started c.self.inside.slots.slots c.insert_reserved.new.self.slots c.insert_reserved.result c.insert_reserved.ensures.updates.others
+    (record { tag = c.args.tag.now; waiters = c.push_reserved.new.self }) c.insert_reserved.ensures.was_vacant c.insert_reserved.ensures.updates.changed in
+    let spare : vec_capacity c.replace-waiters.new.dest ≡ 0 = rw c.replace-waiters.ensures.after c.new.ensures.capacity in
+    let taken : vec_capacity c.replace-waiters.result ≡ vec_capacity c.self.inside.spare = ap vec_capacity c.replace-waiters.ensures.value in
+    rw (← c.self.view_is) (record { records = c.insert_reserved.ensures.capacity; waits = omega (arith, room, spare, taken, c.push_reserved.ensures.capacity) })

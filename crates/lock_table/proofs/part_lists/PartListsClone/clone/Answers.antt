@@ -1,32 +1,35 @@
-use Rattle.std.proofs.Common.{◌≡◌, ◌+◌, ◌<◌, ◌∙◌, vec_len, vec_capacity, arith}
+use Rattle.std.proofs.Common.{◌∙◌, arith}
+use Rattle.lock_table.specs.PartView.{capacity_of_lists}
 use Rattle.lock_table.proofs.part_lists.PartListsClone.clone.Goals as goal
 
 pub invariant_of-result : goal.invariant_of-result
 invariant_of-result c =
-    let holds : c.reserve.new.self.items ≡ c.self.inside.holds.items = c.reserve.ensures.items ∙ c.in_ok-holds.ensures.items ∙ c.as_slice.ensures.value in
-    let waits : c.reserve-2.new.self.items ≡ c.self.inside.waits.items = c.reserve-2.ensures.items ∙ c.in_ok-waits.ensures.items ∙ c.as_slice-2.ensures.value in
-    let len : vec_len c.reserve-2.new.self ≡ vec_len c.self.inside.waits = c.reserve-2.ensures.len ∙ c.in_ok-waits.ensures.len ∙ c.as_slice-2.ensures.len in
-    let room : vec_len c.reserve.new.self + vec_len c.reserve-2.new.self < vec_capacity c.reserve.new.self =
-    omega (arith, len, c.len.ensures, c.reserve.ensures.len, c.in_ok-reserve.ensures.ok) in
-    let named : vec_len c.reserve-2.new.self < vec_capacity c.reserve-3.new.self =
-    omega (arith, len, c.len-2.ensures, c.reserve-3.ensures.len, c.in_ok-reserve-3.ensures.ok) in
+    let holds = c.in_ok-copy_of.ensures in
+    let waits = c.in_ok-copy_of-2.ensures in
+    let woken = c.in_ok-copy_of-3.ensures in
     record {
-      each_once = rw (holds, waits) c.self.invariant.each_once;
-      one_wait_each = rw waits c.self.invariant.one_wait_each;
-      begun_is_new = rw (holds, waits) c.self.invariant.begun_is_new;
-      room = omega (arith, room);
-      begun_has_room = λ x is. room;
-      begun_may_wait = λ x is. omega (arith, c.reserve-2.ensures.len, c.in_ok-reserve-2.ensures.ok);
-      woken_room = omega (arith, named);
-      begun_may_be_woken = λ x is. named;
+      each_once = rw (holds.items, waits.items) c.self.invariant.each_once;
+      one_wait_each = rw waits.items c.self.invariant.one_wait_each;
+      begun_is_new = rw (holds.items, waits.items) c.self.invariant.begun_is_new;
+      room = omega (arith, c.self.invariant.room, holds.len, holds.capacity, waits.len);
+      begun_has_room = λ x is. omega (arith, c.self.invariant.begun_has_room x is, holds.len, holds.capacity, waits.len);
+      begun_may_wait = λ x is. omega (arith, c.self.invariant.begun_may_wait x is, waits.len, waits.capacity);
+      woken_room = omega (arith, c.self.invariant.woken_room, waits.len, woken.capacity);
+      begun_may_be_woken = λ x is. omega (arith, c.self.invariant.begun_may_be_woken x is, waits.len, woken.capacity);
     }
 
 pub returns : goal.returns
 returns c =
-    let holds : c.reserve.new.self.items ≡ c.self.inside.holds.items = c.reserve.ensures.items ∙ c.in_ok-holds.ensures.items ∙ c.as_slice.ensures.value in
-    let waits : c.reserve-2.new.self.items ≡ c.self.inside.waits.items = c.reserve-2.ensures.items ∙ c.in_ok-waits.ensures.items ∙ c.as_slice-2.ensures.value in
-    let woken : c.reserve-3.new.self.items ≡ c.self.inside.woken.items = c.reserve-3.ensures.items ∙ c.in_ok-woken.ensures.items ∙ c.as_slice-3.ensures.value in
+    let holds = c.in_ok-copy_of.ensures in
+    let waits = c.in_ok-copy_of-2.ensures in
+    let woken = c.in_ok-copy_of-3.ensures in
     record {
-      cases = (λ i. record { holds = holds i; waits = waits i; woken = woken i; begun = c.self.inside.begun; prepared = c.self.inside.prepared })
-          ∙ c.self.view_is;
+      cases = (λ i. record {
+        holds = holds.items i;
+        waits = waits.items i;
+        woken = woken.items i;
+        begun = c.self.inside.begun;
+        prepared = c.self.inside.prepared;
+        capacity = capacity_of_lists (holds.capacity i) (waits.capacity i) (woken.capacity i);
+      }) ∙ c.self.view_is;
     }
