@@ -214,3 +214,8 @@ pub record IsReserved (owned : Owned) (tag : Tag) (mode : Mode) (owner : Owner) 
 -- A table with this many slots may grow where it has these entries: more than half of the slots have one, if there is a slot.
 abbrev pub IsCrowded : ℕ → List Entry → Type 0
 IsCrowded slots entries = (slots ≡ 0) ⊎ (slots < 2 * length entries)
+
+-- One more entry takes memory: none can be made with no growth, and the table may grow.
+pub record IsOutOfRoom (owned : Owned) : Type 0 where
+  pub none : owned.room ≡ 0
+  pub crowded : IsCrowded owned.slots owned.entries

@@ -83,6 +83,7 @@ impl LocalTable {
         ensures empty { IfOk result (λ table. table.entries ≡ []) }
         ensures first_level { IfOk result (λ table. table.outer ≡ []) }
         ensures room { IfOk result (λ table. 0 < table.room) }
+        ensures slots { IfOk result (λ table. 0 < table.slots) }
         ensures max_local { IfOk result (λ table. table.max_local ≡ max_local) }
         ensures well_owned { IfOk result (λ table. IsWellOwned table) }
         ensures no_memory { IsOkUnless result Refusal.NoMemory }
@@ -175,6 +176,7 @@ impl LocalTable {
         ensures entries { self.new.entries ≡ self.old.entries }
         ensures refused { OnErr result (self.new ≡ self.old) }
         ensures room { self.new.room ≡ self.old.room }
+        ensures slots { self.new.slots ≡ self.old.slots }
         ensures max_local { self.new.max_local ≡ self.old.max_local }
         ensures well_owned { IsWellOwned self.new }
     {
@@ -198,6 +200,7 @@ impl LocalTable {
         ensures entries { self.new.entries ≡ self.old.entries }
         ensures refused { OnErr result (self.new ≡ self.old) }
         ensures room { self.new.room ≡ self.old.room }
+        ensures slots { self.new.slots ≡ self.old.slots }
         ensures max_local { self.new.max_local ≡ self.old.max_local }
         ensures well_owned { IsWellOwned self.new }
     {

@@ -2,7 +2,7 @@
 
 ghost use Rattle.std.specs.Prelude.{◌≡◌, ◌≢◌, ◌+◌, ◌<◌, ◌≤◌, ◌↔◌, ◌⊎◌, true, false, IsErrOf, IsOkUnless, IfErr, OnOk, OnErr, IsTrue, length};
 ghost use Rattle.local_locks.specs.Slots.{key_hash};
-ghost use Rattle.local_locks.specs.Owned.{max_count, has_entry, owner_count_of, with_one_more, acquired_as, IsWellOwned, IsReserved, IsCrowded};
+ghost use Rattle.local_locks.specs.Owned.{max_count, has_entry, owner_count_of, with_one_more, acquired_as, IsWellOwned, IsReserved, IsCrowded, IsOutOfRoom};
 
 use super::{LocalTable, MAX_SLOTS};
 use crate::ends::Progress;
@@ -28,6 +28,7 @@ impl LocalTable {
         ensures same { result ≢ Ok true → self.new ≡ self.old }
         ensures outer { self.new.outer ≡ self.old.outer }
         ensures room { self.old.room ≤ self.new.room }
+        ensures slots { self.new.slots ≡ self.old.slots }
         ensures max_local { self.new.max_local ≡ self.old.max_local }
         ensures well_owned { IsWellOwned self.new }
     {
@@ -51,6 +52,7 @@ impl LocalTable {
         ensures same { result ≢ AtOnce.AlreadyHeld → self.new ≡ self.old }
         ensures outer { self.new.outer ≡ self.old.outer }
         ensures room { self.old.room ≤ self.new.room }
+        ensures slots { self.new.slots ≡ self.old.slots }
         ensures max_local { self.new.max_local ≡ self.old.max_local }
         ensures well_owned { IsWellOwned self.new }
     {
@@ -84,6 +86,7 @@ impl LocalTable {
         ensures same { result ≢ Ok true → self.new ≡ self.old }
         ensures outer { self.new.outer ≡ self.old.outer }
         ensures room { self.old.room ≤ self.new.room }
+        ensures slots { self.new.slots ≡ self.old.slots }
         ensures max_local { self.new.max_local ≡ self.old.max_local }
         ensures well_owned { IsWellOwned self.new }
     {
@@ -112,12 +115,12 @@ impl LocalTable {
         ensures local_full { IsErrOf result Refusal.LocalFull
             ↔ ((has_entry self.old.entries tag mode ≡ false) × (length self.old.entries ≡ self.old.max_local)) }
         ensures no_memory { IsErrOf result Refusal.NoMemory →
-            (has_entry self.old.entries tag mode ≡ false) × (self.old.room ≡ 0) }
+            (has_entry self.old.entries tag mode ≡ false) × IsOutOfRoom self.old }
         ensures no_other { IfErr result (λ refusal.
             (refusal ≡ Refusal.CountFull) ⊎ ((refusal ≡ Refusal.LocalFull) ⊎ (refusal ≡ Refusal.NoMemory))) }
 
         // What holds after the call, whatever the answer.
-        ensures grows { self.new.slots ≢ self.old.slots → IsCrowded self.old.slots self.old.entries }
+        ensures grows { self.new.slots ≢ self.old.slots → IsOutOfRoom self.old }
         ensures entries { self.new.entries ≡ self.old.entries }
         ensures outer { self.new.outer ≡ self.old.outer }
         ensures room { self.old.room ≤ self.new.room }
@@ -146,11 +149,11 @@ impl LocalTable {
 
         // The refusals, in this order.
         ensures local_full { IsErrOf result Refusal.LocalFull ↔ (length self.old.entries ≡ self.old.max_local) }
-        ensures no_memory { IsErrOf result Refusal.NoMemory → self.old.room ≡ 0 }
+        ensures no_memory { IsErrOf result Refusal.NoMemory → IsOutOfRoom self.old }
         ensures no_other { IfErr result (λ refusal. (refusal ≡ Refusal.LocalFull) ⊎ (refusal ≡ Refusal.NoMemory)) }
 
         // What holds after the call, whatever the answer.
-        ensures grows { self.new.slots ≢ self.old.slots → IsCrowded self.old.slots self.old.entries }
+        ensures grows { self.new.slots ≢ self.old.slots → IsOutOfRoom self.old }
         ensures entries { self.new.entries ≡ self.old.entries }
         ensures outer { self.new.outer ≡ self.old.outer }
         ensures room { self.old.room ≤ self.new.room }
@@ -190,9 +193,9 @@ impl LocalTable {
     #[inline(never)]
     fn make_room(&mut self) -> Result<(), Refusal>
         ensures ok { OnOk result (0 < self.new.room) }
-        ensures err { OnErr result (self.old.room ≡ 0) }
+        ensures err { OnErr result (IsOutOfRoom self.old) }
         ensures no_memory { IsOkUnless result Refusal.NoMemory }
-        ensures grows { self.new.slots ≢ self.old.slots → IsCrowded self.old.slots self.old.entries }
+        ensures grows { self.new.slots ≢ self.old.slots → IsOutOfRoom self.old }
         ensures entries { self.new.entries ≡ self.old.entries }
         ensures outer { self.new.outer ≡ self.old.outer }
         ensures room { self.old.room ≤ self.new.room }
@@ -263,6 +266,7 @@ impl LocalTable {
         ensures entries { self.new.entries ≡ with_one_more self.old.entries tag mode owner }
         ensures outer { self.new.outer ≡ self.old.outer }
         ensures room { self.old.room ≤ self.new.room + 1 }
+        ensures slots { self.new.slots ≡ self.old.slots }
         ensures max_local { self.new.max_local ≡ self.old.max_local }
         ensures well_owned { IsWellOwned self.new }
     {
@@ -286,6 +290,7 @@ impl LocalTable {
         ensures entries { self.new.entries ≡ with_one_more self.old.entries tag.now mode owner }
         ensures outer { self.new.outer ≡ self.old.outer }
         ensures room { self.old.room ≤ self.new.room + 1 }
+        ensures slots { self.new.slots ≡ self.old.slots }
         ensures max_local { self.new.max_local ≡ self.old.max_local }
         ensures well_owned { IsWellOwned self.new }
     {
@@ -308,6 +313,7 @@ impl LocalTable {
         ensures entries { self.new.entries ≡ with_one_more self.old.entries tag.now mode owner }
         ensures outer { self.new.outer ≡ self.old.outer }
         ensures room { self.old.room ≤ self.new.room + 1 }
+        ensures slots { self.new.slots ≡ self.old.slots }
         ensures max_local { self.new.max_local ≡ self.old.max_local }
         ensures well_owned { IsWellOwned self.new }
     {
@@ -324,6 +330,7 @@ impl LocalTable {
         ensures entries { self.new.entries ≡ with_one_more self.old.entries tag mode owner }
         ensures outer { self.new.outer ≡ self.old.outer }
         ensures room { self.old.room ≤ self.new.room + 1 }
+        ensures slots { self.new.slots ≡ self.old.slots }
         ensures max_local { self.new.max_local ≡ self.old.max_local }
         ensures well_owned { IsWellOwned self.new }
     {

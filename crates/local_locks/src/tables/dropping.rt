@@ -23,6 +23,7 @@ impl LocalTable {
         ensures refused { OnErr result (self.new ≡ self.old) }
         ensures outer { self.new.outer ≡ self.old.outer }
         ensures room { self.old.room ≤ self.new.room }
+        ensures slots { self.new.slots ≡ self.old.slots }
         ensures max_local { self.new.max_local ≡ self.old.max_local }
         ensures well_owned { IsWellOwned self.new }
     {
@@ -41,6 +42,7 @@ impl LocalTable {
         ensures refused { OnErr result (self.new ≡ self.old) }
         ensures outer { self.new.outer ≡ self.old.outer }
         ensures room { self.old.room ≤ self.new.room }
+        ensures slots { self.new.slots ≡ self.old.slots }
         ensures max_local { self.new.max_local ≡ self.old.max_local }
         ensures well_owned { IsWellOwned self.new }
     {
@@ -62,6 +64,7 @@ impl LocalTable {
         ensures same { IsNone result → self.new ≡ self.old }
         ensures outer { self.new.outer ≡ self.old.outer }
         ensures room { self.old.room ≤ self.new.room }
+        ensures slots { self.new.slots ≡ self.old.slots }
         ensures max_local { self.new.max_local ≡ self.old.max_local }
         ensures well_owned { IsWellOwned self.new }
     {
@@ -97,6 +100,7 @@ impl LocalTable {
         ensures refused { OnErr result (self.new ≡ self.old) }
         ensures outer { self.new.outer ≡ self.old.outer }
         ensures room { self.old.room ≤ self.new.room }
+        ensures slots { self.new.slots ≡ self.old.slots }
         ensures max_local { self.new.max_local ≡ self.old.max_local }
         ensures well_owned { IsWellOwned self.new }
     {

@@ -33,6 +33,7 @@ impl LocalTable {
         ensures ended { IfNone result (self.new.outer ≡ outer_after end self.old.outer) }
 
         ensures room { self.old.room ≤ self.new.room }
+        ensures slots { self.new.slots ≡ self.old.slots }
         ensures max_local { self.new.max_local ≡ self.old.max_local }
         ensures well_owned { IsWellOwned self.new }
     {
@@ -55,6 +56,7 @@ impl LocalTable {
         ensures level { IsSome result → level_of self.new ≡ level_of self.old }
         ensures ended { IfNone result (self.new.outer ≡ []) }
         ensures room { self.old.room ≤ self.new.room }
+        ensures slots { self.new.slots ≡ self.old.slots }
         ensures max_local { self.new.max_local ≡ self.old.max_local }
         ensures well_owned { IsWellOwned self.new }
     {
@@ -100,6 +102,7 @@ impl LocalTable {
         ensures outer { IsSome result → self.new.outer ≡ self.old.outer }
         ensures ended { IfNone result (self.new.outer ≡ outer_after End.Inner self.old.outer) }
         ensures room { self.old.room ≤ self.new.room }
+        ensures slots { self.new.slots ≡ self.old.slots }
         ensures max_local { self.new.max_local ≡ self.old.max_local }
         ensures well_owned { IsWellOwned self.new }
     {
