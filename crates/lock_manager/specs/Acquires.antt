@@ -8,7 +8,7 @@ use Rattle.modes_core.specs.declared.refusals.Refusal.TheVariants.{Conflict, Sim
 use Rattle.local_locks.specs.declared.answers.Acquired.{Acquired}
 use Rattle.local_locks.specs.declared.answers.Acquired.TheVariants as acquired
 use Rattle.local_locks.specs.declared.records.Entry.{Entry}
-use Rattle.local_locks.specs.Owned.{Owned, has_entry, owner_count_of, max_count, with_one_more}
+use Rattle.local_locks.specs.Owned.{Owned, has_entry, owner_count_of, max_count, with_one_more, IsOutOfRoom}
 use Rattle.wait_queue.specs.declared.requests.Kind.{Kind}
 use Rattle.wait_queue.specs.declared.requests.Kind.TheVariants.{Conditional}
 use Rattle.wait_queue.specs.declared.requests.Decision.TheVariants as decision
@@ -70,7 +70,7 @@ IsOwnAnswerBySlot (Err refusal) = IsOwnRefusal refusal
 abbrev pub IsRefusedForMemory :
     {B : Type 0} → (B → Account) → Kind → Seated → Owned → UseCounts → Tag → Mode → B → B → UseCounts → Type 0
 IsRefusedForMemory view kind seat owned uses tag mode old new left =
-    ((owned.room ≡ 0) × (new ≡ old))
+    (IsOutOfRoom owned × (new ≡ old))
     ⊎ Requests kind seat (view old) uses tag mode (Err NoMemory) (view new) left
 
 -- the entries once an acquire has begun
@@ -91,7 +91,7 @@ Begins kind seat owned a uses tag mode (Ok Queued) b left =
 Begins kind seat owned a uses tag mode (Err CountFull) b left = (b ≡ a) × (left ≡ uses)
 Begins kind seat owned a uses tag mode (Err LocalFull) b left = (b ≡ a) × (left ≡ uses)
 Begins kind seat owned a uses tag mode (Err NoMemory) b left =
-    ((has_entry owned.entries tag mode ≡ false) × (owned.room ≡ 0) × (b ≡ a) × (left ≡ uses))
+    ((has_entry owned.entries tag mode ≡ false) × IsOutOfRoom owned × (b ≡ a) × (left ≡ uses))
     ⊎ Requests kind seat a uses tag mode (Err NoMemory) b left
 Begins kind seat owned a uses tag mode (Err refusal) b left = Requests kind seat a uses tag mode (Err refusal) b left
 
@@ -119,6 +119,6 @@ AcquiresBySlot groups number owned a uses tag mode (Err CountFull) b left = (b �
 AcquiresBySlot groups number owned a uses tag mode (Err NotEligible) b left = (b ≡ a) × (left ≡ uses)
 AcquiresBySlot groups number owned a uses tag mode (Err LocalFull) b left = (b ≡ a) × (left ≡ uses)
 AcquiresBySlot groups number owned a uses tag mode (Err NoMemory) b left =
-    (has_entry owned.entries tag mode ≡ false) × (owned.room ≡ 0) × (b ≡ a) × (left ≡ uses)
+    (has_entry owned.entries tag mode ≡ false) × IsOutOfRoom owned × (b ≡ a) × (left ≡ uses)
 AcquiresBySlot groups number owned a uses tag mode (Err refusal) b left =
     TriesGrant groups number a uses tag mode (Err refusal) b left

@@ -72,9 +72,14 @@ LeadsToTable groups limit a uses tag mode steps =
 
 -- ---- the episode that decides
 
--- There was a part in which room was made for the session's request.
-abbrev pub HadRoom : {T : Type 0} → (T → Option Request) → ℕ → Tag → Mode → Type 0
-HadRoom {T} prepared session tag mode = (part : T) × (prepared part ≡ Some (record { session = session; tag = tag; mode = mode }))
+-- The part that the last episode of this trace put was the one of the object, and room had been made in it for the session's request.
+pub record HadRoom {T : Type 0} (content : T → Content) (prepared : T → Option Request) (session : ℕ) (tag : Tag) (mode : Mode)
+    (trace : List TraceEntry) : Type 0 where
+  pub part : T
+  pub room : prepared part ≡ Some (record { session = session; tag = tag; mode = mode })
+  pub before : List TraceEntry
+  pub taken : Content
+  pub put : trace ≡ before ++ Episode (partition_of tag) taken (content part) ∷ []
 
 -- the account of a session that waits for the mode on the object, with the modes of it that it has in the table
 abbrev pub account_awaiting : Account → Tag → Mode → (Mode → Bool) → Account

@@ -1,4 +1,4 @@
-use Rattle.std.specs.Prelude.{◌≡◌, ℕ, List, []}
+use Rattle.std.specs.Prelude.{◌≡◌, ◌≤◌, ℕ, List, []}
 use Rattle.lock_world.specs.Account.{Account}
 use Rattle.lock_world.specs.AccountSteps.{account_storing}
 use Rattle.shared_rule.specs.Boards.{Seated, Stack}
@@ -17,7 +17,7 @@ abbrev pub session_of : {B : Type 0} → B → Own → SessionView B
 session_of board own = record { board = board; database = own.database; uses = own.uses; owned = own.locals }
 
 -- All that it held was released, in the order of making, then its database was stored, and it made no other step. It owns nothing, at the
--- first level of a transaction, and has its number, its place at the table and its limit of local entries as before.
+-- first level of a transaction, and has its number, its place at the table, its limit of local entries and its slots for them as before.
 pub record ServesNext {B : Type 0} (seat : B → Seated) (view : B → Account) (stack : B → Stack) (quiet : B → List Quiet)
     (database : ℕ) (session next : SessionView B) : Type 0 where
   pub last : Account
@@ -31,4 +31,6 @@ pub record ServesNext {B : Type 0} (seat : B → Seated) (view : B → Account) 
   pub nothing : next.owned.entries ≡ []
   pub first_level : next.owned.outer ≡ []
   pub max_local : next.owned.max_local ≡ session.owned.max_local
+  pub room : session.owned.room ≤ next.owned.room
+  pub slots : next.owned.slots ≡ session.owned.slots
   pub rest : IsResting seat view stack next

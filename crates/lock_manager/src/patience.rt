@@ -4,7 +4,9 @@ ghost use Rattle.std.specs.Prelude.{◌≡◌, ◌≤◌, true, IsOkUnless, IfEr
 ghost use Rattle.local_locks.specs.Owned.{with_one_more, IsReserved};
 ghost use Rattle.lock_manager.specs.Rest.{IsAtRest};
 ghost use Rattle.lock_manager.specs.Sessions.{GainsAwaited, IsSame, KeepsOwn};
-ghost use Rattle.lock_manager.specs.Acquires.{AnswersByOwned, IsOwnAnswer, IsRefusedForMemory};
+ghost use Rattle.wait_queue.specs.Decide.{IsAfterRoom};
+ghost use Rattle.lock_manager.specs.Requests.{HadRoom};
+ghost use Rattle.lock_manager.specs.Acquires.{AnswersByOwned, HasEntryRoom, IsOwnAnswer, IsRefusedForMemory};
 ghost use Rattle.lock_manager.specs.Waiting.{IsWaiting};
 ghost use Rattle.lock_manager.specs.Patience.{CancelsAs, WaitsWhile, LocksWhile};
 ghost use Rattle.lock_manager.specs.Quiet.{QuietOfAcquire};
@@ -110,6 +112,9 @@ fn lock_while<T: PartTable, B: Board<T>, R: Wait, K: FnMut() -> bool>(
     requires rest { IsAtRest (B.seat board.old).groups (B.seat board.old).limit own.old.database own.old.uses
         (B.view board.old) (B.stack board.old) own.old.locals.entries }
     ensures answers { AnswersByOwned own.old.locals tag mode owner Acquired.AlreadyHeld true result }
+    ensures room_first { IfErr result (IsAfterRoom (HadRoom T.content T.prepared (B.seat board.old).number tag mode
+        (B.view board.new).trace)) }
+    ensures entry_room_first { IfErr result (HasEntryRoom own.new.locals) }
     ensures steps { LocksWhile K.step keep_waiting (B.seat board.old) own.old.locals (B.view board.old) own.old.uses
         tag mode result (B.view board.new) own.new.uses }
     ensures quiet { QuietOfAcquire (B.seat board.old) (B.view board.old) own.old.uses tag mode
@@ -151,6 +156,9 @@ impl<T: PartTable, B: Board<T>> OwnSession<T, B> {
         requires callable { K.IsAlwaysCallable keep_waiting }
         // What the call answers.
         ensures answers { AnswersByOwned self.old.owned tag mode owner Acquired.AlreadyHeld true result }
+        ensures room_first { IfErr result (IsAfterRoom (HadRoom T.content T.prepared (B.seat self.old.board).number
+            tag mode (B.view self.new.board).trace)) }
+        ensures entry_room_first { IfErr result (HasEntryRoom self.new.owned) }
         ensures steps { LocksWhile K.step keep_waiting (B.seat self.old.board) self.old.owned (B.view self.old.board)
             self.old.uses tag mode result (B.view self.new.board) self.new.uses }
         ensures quiet { QuietOfAcquire (B.seat self.old.board) (B.view self.old.board) self.old.uses tag mode

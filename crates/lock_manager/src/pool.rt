@@ -141,6 +141,7 @@ impl<T: PartTable, B: Board<T>> SessionPool<T, B> {
             (λ _. TakesIn B.seat B.view B.stack B.quiet session self.old self.new)
             (λ back. ServesNext B.seat B.view B.stack B.quiet 0 session back × (self.new ≡ self.old)
             × HasNoRoomFor (B.seat session.board).number self.old) }
+        ensures had_room { OnOk result (HasRoomFor (B.seat session.board).number self.old) }
     {
         session.serve_next(rt, 0);
         let number = usize::from(session.id().number());
@@ -215,6 +216,7 @@ impl<T: PartTable, B: Board<T>> SessionPool<T, B> {
             ((self.old.free ≡ []) × (D.issued desk.old ≡ (D.manager desk.old).limit)) }
         ensures no_other { IfErr result (λ refusal. (refusal ≡ Refusal.NoMoreSessions) ⊎ (refusal ≡ Refusal.NoMemory)) }
         ensures unchanged { OnErr result (self.new ≡ self.old) }
+        ensures lives { self.new.lives ≡ self.old.lives }
         ensures none_new { self.old.free ≢ [] → desk.new ≡ desk.old }
         ensures live { OnOk result (D.live desk.new + length self.old.free ≡ D.live desk.old + length self.new.free + 1) }
         ensures fewer_free { OnOk result (length self.new.free ≡ length self.old.free - 1) }
@@ -242,6 +244,7 @@ impl<T: PartTable, B: Board<T>> SessionPool<T, B> {
             TakesIn B.seat B.view B.stack B.quiet session self.old self.new × (desk.new ≡ desk.old) }
         ensures one_more { HasRoomFor (B.seat session.board).number self.old →
             length self.new.free ≡ length self.old.free + 1 }
+        ensures not_taken { HasNoRoomFor (B.seat session.board).number self.old → self.new ≡ self.old }
         ensures live { length self.old.free < D.live desk.old →
             D.live desk.new + length self.old.free + 1 ≡ D.live desk.old + length self.new.free }
         ensures free { AreOf B.seat (D.manager desk.old) self.new.free }

@@ -1,6 +1,6 @@
 //! Releases, over any board.
 
-ghost use Rattle.std.specs.Prelude.{◌≡◌, ◌<◌, true, false, [], None};
+ghost use Rattle.std.specs.Prelude.{◌≤◌, ◌≡◌, ◌<◌, true, false, [], None};
 ghost use Rattle.modes_core.specs.Tag.{is_strong_on};
 ghost use Rattle.lock_world.specs.SlotHolds.{slot_holds};
 ghost use Rattle.local_locks.specs.Owned.{level_of, found_by, ended_by, left_by, outer_after, IsWellOwned};
@@ -42,6 +42,8 @@ pub fn end_all<T: PartTable, B: Board<T>, R: Wait>(rt: &R, board: &mut B, own: &
     ensures none_ended { ended_by end (found_by end own.old.locals) ≡ [] → board.new ≡ board.old }
     ensures entries { own.new.locals.entries ≡ left_by end (found_by end own.old.locals) }
     ensures levels { own.new.locals.outer ≡ outer_after end own.old.locals.outer }
+    ensures room { own.old.locals.room ≤ own.new.locals.room }
+    ensures slots { own.new.locals.slots ≡ own.old.locals.slots }
     ensures kept { KeepsOwn (B.seat board.old) own.old (B.seat board.new) own.new }
 {
     'entries: while let Some((tag, mode)) = own.locals.end_next(end) {

@@ -57,7 +57,8 @@ pub fn acquire<T: PartTable, B: Board<T>, R: Wait>(
         (B.view board.new) own.new.uses }
     ensures quiet { QuietOfAcquire (B.seat board.old) (B.view board.old) own.old.uses tag mode
         (B.quiet board.old) (B.quiet board.new) }
-    ensures room_first { IfErr result (IsAfterRoom (HadRoom T.prepared (B.seat board.old).number tag mode)) }
+    ensures room_first { IfErr result (IsAfterRoom (HadRoom T.content T.prepared (B.seat board.old).number tag mode
+        (B.view board.new).trace)) }
     ensures entry_room_first { IfErr result (HasEntryRoom own.new.locals) }
     ensures untouched { IsOwnAnswer Begun.AlreadyHeld result → board.new ≡ board.old }
     ensures no_memory { IfErr result (λ refusal. refusal ≡ Refusal.NoMemory → IsRefusedForMemory B.view kind
@@ -156,7 +157,8 @@ pub fn request<T: PartTable, B: Board<T>, R: Wait>(
         (B.view board.new) uses.new }
     ensures quiet { QuietOfRequest (B.seat board.old) (B.view board.old) uses.old tag.now mode
         (B.quiet board.old) (B.quiet board.new) }
-    ensures room_first { IfErr result (IsAfterRoom (HadRoom T.prepared (B.seat board.old).number tag.now mode)) }
+    ensures room_first { IfErr result (IsAfterRoom (HadRoom T.content T.prepared (B.seat board.old).number tag.now mode
+        (B.view board.new).trace)) }
     ensures account { IsRequested (B.seat board.old).limit (B.view board.old) tag.now mode result (B.view board.new) }
     ensures use_count { IsUseCount (B.seat board.old).groups (B.view board.new) uses.new }
     ensures stack { B.stack board.new ≡ B.stack board.old }
@@ -195,7 +197,8 @@ fn request_strong<T: PartTable, B: Board<T>, R: Wait>(
     ensures steps { (uses : UseCounts) →
         Requests kind (B.seat board.old) (B.view board.old) uses tag.now mode result (B.view board.new) uses }
     ensures quiet { QuietOfStrong (B.seat board.old).limit tag.now mode (B.quiet board.old) (B.quiet board.new) }
-    ensures room_first { IfErr result (IsAfterRoom (HadRoom T.prepared (B.seat board.old).number tag.now mode)) }
+    ensures room_first { IfErr result (IsAfterRoom (HadRoom T.content T.prepared (B.seat board.old).number tag.now mode
+        (B.view board.new).trace)) }
     ensures account { IsRequested (B.seat board.old).limit (B.view board.old) tag.now mode result (B.view board.new) }
     ensures use_count { (uses : UseCounts) → IsUseCount (B.seat board.old).groups (B.view board.old) uses
         → IsUseCount (B.seat board.old).groups (B.view board.new) uses }
@@ -231,7 +234,8 @@ fn decide_in_part<T: PartTable, B: Board<T>, R: Wait>(
     ensures decided { DecidesInPart kind (B.seat board.old).number (B.view board.old) tag.now mode result
         (B.view board.new) }
     ensures quiet { B.quiet board.new ≡ B.quiet board.old }
-    ensures room_first { IfErr result (IsAfterRoom (HadRoom T.prepared (B.seat board.old).number tag.now mode)) }
+    ensures room_first { IfErr result (IsAfterRoom (HadRoom T.content T.prepared (B.seat board.old).number tag.now mode
+        (B.view board.new).trace)) }
     ensures stack { B.stack board.new ≡ B.stack board.old }
     ensures seat { B.seat board.new ≡ B.seat board.old }
 {

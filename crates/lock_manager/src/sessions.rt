@@ -211,7 +211,8 @@ impl<T: PartTable, B: Board<T>> OwnSession<T, B> {
     ) -> Result<Acquired, Refusal>
         // What the call answers.
         ensures answers { AnswersByOwned self.old.owned tag mode owner Acquired.AlreadyHeld true result }
-        ensures room_first { IfErr result (IsAfterRoom (HadRoom T.prepared (B.seat self.old.board).number tag mode)) }
+        ensures room_first { IfErr result (IsAfterRoom (HadRoom T.content T.prepared (B.seat self.old.board).number
+            tag mode (B.view self.new.board).trace)) }
         ensures entry_room_first { IfErr result (HasEntryRoom self.new.owned) }
         ensures steps { Acquires (B.seat self.old.board) self.old.owned (B.view self.old.board) self.old.uses tag mode
             result (B.view self.new.board) self.new.uses }

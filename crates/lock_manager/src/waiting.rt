@@ -5,7 +5,9 @@ ghost use Rattle.std.specs.Prelude.{IsErrOf, IsOkUnless, IfOk, IfErr, OnOk, OnEr
 ghost use Rattle.local_locks.specs.Owned.{has_entry, with_one_more, IsReserved};
 ghost use Rattle.lock_manager.specs.Rest.{IsAtRest};
 ghost use Rattle.lock_manager.specs.Sessions.{GainsAwaited, KeepsOwn};
-ghost use Rattle.lock_manager.specs.Acquires.{AnswersByOwned, IsOwnAnswer, IsRefusedForMemory};
+ghost use Rattle.wait_queue.specs.Decide.{IsAfterRoom};
+ghost use Rattle.lock_manager.specs.Requests.{HadRoom};
+ghost use Rattle.lock_manager.specs.Acquires.{AnswersByOwned, HasEntryRoom, IsOwnAnswer, IsRefusedForMemory};
 ghost use Rattle.lock_manager.specs.Waiting.{IsWaiting, HasLooked, AsksOneOf, LooksForWaiters};
 ghost use Rattle.lock_manager.specs.Waiting.{IsInWait, polled_as, Polls, Cancels, Waits, account_cancelled};
 ghost use Rattle.lock_manager.specs.WaitingSessions.{Locks};
@@ -256,6 +258,9 @@ pub fn lock<T: PartTable, B: Board<T>, R: Wait>(
     requires rest { IsAtRest (B.seat board.old).groups (B.seat board.old).limit own.old.database own.old.uses
         (B.view board.old) (B.stack board.old) own.old.locals.entries }
     ensures answers { AnswersByOwned own.old.locals tag mode owner Acquired.AlreadyHeld true result }
+    ensures room_first { IfErr result (IsAfterRoom (HadRoom T.content T.prepared (B.seat board.old).number tag mode
+        (B.view board.new).trace)) }
+    ensures entry_room_first { IfErr result (HasEntryRoom own.new.locals) }
     ensures steps { Locks (B.seat board.old) own.old.locals (B.view board.old) own.old.uses tag mode result
         (B.view board.new) own.new.uses }
     ensures quiet { QuietOfAcquire (B.seat board.old) (B.view board.old) own.old.uses tag mode

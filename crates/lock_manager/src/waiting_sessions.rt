@@ -142,7 +142,8 @@ impl<T: PartTable, B: Board<T>> OwnSession<T, B> {
         // What the call answers.
         ensures answers { AnswersByOwned self.owned tag mode owner begun.AlreadyHeld true (answer_started result) }
         ensures room_first { IfErr (answer_started result)
-            (IsAfterRoom (HadRoom T.prepared (B.seat self.board).number tag mode)) }
+            (IsAfterRoom (HadRoom T.content T.prepared (B.seat self.board).number tag mode
+            (B.view (board_started result)).trace)) }
         ensures entry_room_first { IfErr (answer_started result) (HasEntryRoom (owned_started result)) }
         ensures steps { Begins Kind.Waiting (B.seat self.board) self.owned (B.view self.board) self.uses tag mode
             (answer_started result) (B.view (board_started result)) (uses_started result) }
@@ -188,6 +189,10 @@ impl<T: PartTable, B: Board<T>> OwnSession<T, B> {
     pub fn lock<R: Wait>(self, rt: &R, tag: Tag, mode: Mode, owner: Owner) -> Locked<Self>
         // What the call answers.
         ensures answers { AnswersByOwned self.owned tag mode owner Acquired.AlreadyHeld true (answer_locked result) }
+        ensures room_first { IfErr (answer_locked result)
+            (IsAfterRoom (HadRoom T.content T.prepared (B.seat self.board).number tag mode
+            (B.view (session_locked result).board).trace)) }
+        ensures entry_room_first { IfErr (answer_locked result) (HasEntryRoom (session_locked result).owned) }
         ensures steps { Locks (B.seat self.board) self.owned (B.view self.board) self.uses tag mode
             (answer_locked result) (B.view (session_locked result).board) (session_locked result).uses }
         ensures quiet { QuietOfAcquire (B.seat self.board) (B.view self.board) self.uses tag mode
@@ -229,6 +234,9 @@ impl<T: PartTable, B: Board<T>> OwnSession<T, B> {
     ) -> Result<Acquired, Refusal>
         // What the call answers.
         ensures answers { AnswersByOwned self.old.owned tag mode owner Acquired.AlreadyHeld true result }
+        ensures room_first { IfErr result (IsAfterRoom (HadRoom T.content T.prepared (B.seat self.old.board).number
+            tag mode (B.view self.new.board).trace)) }
+        ensures entry_room_first { IfErr result (HasEntryRoom self.new.owned) }
         ensures steps { Locks (B.seat self.old.board) self.old.owned (B.view self.old.board) self.old.uses tag mode
             result (B.view self.new.board) self.new.uses }
         ensures quiet { QuietOfAcquire (B.seat self.old.board) (B.view self.old.board) self.old.uses tag mode

@@ -1,4 +1,4 @@
-use Rattle.std.proofs.Common.{◌≡◌, refl, sym, ap, ◌∙◌, subst}
+use Rattle.std.proofs.Common.{◌≡◌, refl, sym, ap, ◌∙◌, subst, arith}
 use Rattle.local_locks.specs.declared.ends.End.{End}
 use Rattle.local_locks.specs.declared.ends.End.TheVariants.{Commit, Abort, Close, Inner}
 use Rattle.local_locks.specs.Owned.{ended_by, found_by, outer_after}
@@ -21,6 +21,8 @@ entries-init g c = record {
   entries = refl;
   level = refl;
   outer = λ _. refl;
+  room = omega arith;
+  slots = refl;
   kept = record { seat_ = refl; database = refl; max_local = refl; well_owned = c.requires.well_owned };
 }
 
@@ -67,6 +69,8 @@ entries-preserved g c = record {
   entries = c.in-Some.ensures.outlives refl ∙ c.entries.invariant.entries;
   level = c.in-Some.ensures.level refl ∙ c.entries.invariant.level;
   outer = λ inner. c.in-Some.ensures.inner refl inner ∙ c.entries.invariant.outer inner;
+  room = omega (arith, c.entries.invariant.room, c.end_next.ensures.room);
+  slots = c.end_next.ensures.slots ∙ c.entries.invariant.slots;
   kept = record {
     seat_ = c.release_hold.ensures.seat ∙ c.entries.invariant.kept.seat_;
     database = c.entries.invariant.kept.database;
@@ -98,3 +102,9 @@ returns-clause-quiet g c =
     c.entries.invariant.quiet (g.B.Board.view c.entries.board) c.entries.own.uses (g.B.Board.quiet c.entries.board)
     (quiet-over seat.groups seat.number (g.B.Board.view c.entries.board) c.entries.own.uses (ended_by c.args.end (found_by c.args.end c.entries.own.locals))
     (g.B.Board.quiet c.entries.board) c.in_default.ensures.last)
+
+pub returns-clause-room : goal.returns-clause-room
+returns-clause-room g c = omega (arith, c.entries.invariant.room, c.end_next.ensures.room)
+
+pub returns-clause-slots : goal.returns-clause-slots
+returns-clause-slots g c = c.end_next.ensures.slots ∙ c.entries.invariant.slots

@@ -1,4 +1,4 @@
-use Rattle.std.proofs.Common.{◌≡◌, List, [], length}
+use Rattle.std.proofs.Common.{◌≡◌, ◌≤◌, List, [], length}
 use Rattle.local_locks.specs.declared.ends.End.TheVariants.{Inner}
 use Rattle.local_locks.specs.Owned.{level_of, found_by, ended_by, left_by}
 use Rattle.lock_world.specs.Account.{Account}
@@ -28,6 +28,8 @@ invariant-entries g l = record {
   entries : left_by l.end (found_by l.end l.own.locals) ≡ left_by l.end (found_by l.end l.fn.own.locals);
   level : level_of l.own.locals ≡ level_of l.fn.own.locals;
   outer : l.end ≡ Inner → l.own.locals.outer ≡ l.fn.own.locals.outer;
+  room : l.fn.own.locals.room ≤ l.own.locals.room;
+  slots : l.own.locals.slots ≡ l.fn.own.locals.slots;
   kept : KeepsOwn (g.B.Board.seat l.fn.board) l.fn.own (g.B.Board.seat l.board) l.own;
 }
 

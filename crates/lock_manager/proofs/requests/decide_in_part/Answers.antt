@@ -4,7 +4,7 @@ use Rattle.lock_table.specs.Moves.{Moves}
 use Rattle.lock_table.specs.Queue.{waits_there}
 use Rattle.wait_queue.specs.declared.requests.Decision.TheVariants.{Queued}
 use Rattle.wait_queue.specs.Decide.{IsDecided}
-use Rattle.lock_world.specs.Account.{InHand}
+use Rattle.lock_world.specs.Account.{Account, InHand}
 use Rattle.lock_world.specs.AccountFacts.{OwnHoldsStand}
 use Rattle.lock_world.specs.AccountLaw.{MayMoveBy}
 use Rattle.shared_rule.specs.Boards.{Seated}
@@ -74,4 +74,6 @@ returns-in-Ok-Queued-clause-decided g c =
 
 pub returns-in-Err-clause-room_first : goal.returns-in-Err-clause-room_first
 returns-in-Err-clause-room_first g c =
-    room-had g.T.PartTable.prepared c.decide.new.part c.number-number.result (g.B.Board.seat c.args.board.now).number c.args.tag.now c.args.mode c.number-number.ensures.value c.in-Err.refusal c.in-Err.ensures.room_first
+    room-had g.T.PartTable.content g.T.PartTable.prepared c.decide.new.part c.number-number.result (g.B.Board.seat c.args.board.now).number c.args.tag.now c.args.mode c.number-number.ensures.value
+    (g.B.Board.view c.take_part-content.new.self).trace c.partition-part.result _ (g.B.Board.view c.put_part-in-Err.new.self).trace c.partition-part.ensures.value
+    (ap (λ (a : Account). a.trace) c.put_part-in-Err.ensures.view) c.in-Err.refusal c.in-Err.ensures.room_first

@@ -1,11 +1,14 @@
-use Rattle.std.proofs.Common.{◌++◌, ◌∷◌, ◌∙◌, [], Result, Ok, Err, refl, subst}
+use Rattle.std.proofs.Common.{◌++◌, ◌∷◌, ◌∙◌, ℕ, [], List, Result, Ok, Err, refl, sym, ap, subst}
 use Rattle.modes_core.specs.declared.refusals.Refusal.{Refusal}
 use Rattle.shared_rule.specs.Boards.{Seated}
 use Rattle.fast_path.specs.Transfers.{Transfers, IsCutShort}
 use Rattle.fast_path.specs.declared.use_counts.UseCounts.{UseCounts}
 use Rattle.wait_queue.specs.declared.requests.Decision.{Decision}
 use Rattle.lock_manager.specs.Rest.{IsUseCount}
-use Rattle.lock_manager.specs.Requests.{DecidesInPart}
+use Rattle.lock_world.specs.Account.{Account}
+use Rattle.lock_world.specs.World.{TraceEntry}
+use Rattle.wait_queue.specs.Decide.{IsAfterRoom}
+use Rattle.lock_manager.specs.Requests.{DecidesInPart, HadRoom}
 use Rattle.fast_path.proofs.Lemmas.Counts.{counted_at}
 use Rattle.lock_manager.proofs.Lemmas.Requests.Whole.{IsLed, led-transferred, led-decides, led-account, led-refused_steps, led-refused_strong, led-refused_use_count}
 use Rattle.lock_manager.proofs.Lemmas.Requests.Whole.{strong-counted, requests-decided, transferred, cut_short, scanned-use_count, decided-use_count}
@@ -131,3 +134,12 @@ returns-in-Err-clause-quiet g c =
       within = its.within;
       quiet = c.sub_strong.ensures.quiet ∙ c.decide_in_part.ensures.quiet ∙ its.quiet;
     }
+
+-- The count goes back with no step that its trace has.
+pub returns-in-Err-clause-room_first : goal.returns-in-Err-clause-room_first
+returns-in-Err-clause-room_first g c =
+    let had : ℕ → List TraceEntry → Type 0 = λ number trace.
+    IsAfterRoom (HadRoom g.T.PartTable.content g.T.PartTable.prepared number c.args.tag.now c.args.mode trace) c.in-Err.refusal in
+    let trace = ap (λ (a : Account). a.trace) c.sub_strong.ensures.view in
+    subst (had (g.B.Board.seat c.args.board.now).number) (sym trace)
+    (subst (λ (s : Seated). had s.number (g.B.Board.view c.decide_in_part.new.board).trace) c.transfer.ensures.seat c.in-Err.ensures.room_first)

@@ -33,6 +33,8 @@ returns-clause-next g c =
       nothing = c.end_all.ensures.entries ∙ left_by-close c.args.own.now.locals.entries;
       first_level = c.end_all.ensures.levels;
       max_local = c.end_all.ensures.kept.max_local;
+      room = c.end_all.ensures.room;
+      slots = c.end_all.ensures.slots;
       rest = subst (λ (s : Seated). IsAtRest s.groups s.limit c.args.database c.end_all.new.own.uses
           (view c.store_database.new.self) (stack c.store_database.new.self) c.end_all.new.own.locals.entries) (sym seat)
           (rest-stored _ _ _ c.args.database _ _ _ _ _ _ c.end_all.ensures.rest c.store_database.ensures.view c.store_database.ensures.stack);
