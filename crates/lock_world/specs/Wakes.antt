@@ -63,8 +63,8 @@ beside_after w b (happened event) = record {
 }
 beside_after w b (saw_list_locked session lock) = record b { duties = after_looking b.duties session }
 beside_after w b (saw_held session lock) = record b { duties = after_attempt b.duties session }
-beside_after w b (called_waiter session other) = record b { waits = calling b.waits session other }
-beside_after w b (called_sleeper session other) = record b { sleeps = calling b.sleeps session other }
+beside_after w b (called_waiter session other) = record b { waits = calling w.words.wait b.waits session other }
+beside_after w b (called_sleeper session other) = record b { sleeps = calling w.words.sleep b.sleeps session other }
 
 -- The turns lead from the World w, with b beside it, to v with d, each turn being one of these.
 abbrev pub RunsBy : (World → Beside → Turn → World → Type 0) → World → Beside → List Turn → World → Beside → Type 0

@@ -1,4 +1,4 @@
-use Rattle.std.specs.Prelude.{◌≡◌, ◌≢◌, ℕ, ◌==◌, Bool, true, false, Option, Some, None, ◌⊎◌, if◌then◌else◌}
+use Rattle.std.specs.Prelude.{◌≡◌, ◌≢◌, ℕ, ◌==◌, ◌||◌, not, Bool, true, false, Option, Some, None, ◌⊎◌, if◌then◌else◌}
 use Rattle.lock_table.specs.Put.{set_at}
 use Rattle.lock_world.specs.declared.events.Step.{Step}
 use Rattle.lock_world.specs.declared.events.Step.TheVariants.{AskCancel, LoadWait, SetWaiting, MarkGranted, ClearWait, JoinList, LeaveList, TakeOff, Tell, LoadSleep}
@@ -54,10 +54,15 @@ changing c session other = record c { owed = set_at c.owed session (set_at (c.ow
 abbrev pub asking : Calls → ℕ → ℕ → ℕ → Calls
 asking c session other shown = if wait_state shown == 1 then changing c session other else c
 
--- The session calls `other`, and owes it no call any more.
-abbrev pub calling : Calls → ℕ → ℕ → Calls
-calling c session other = record c {
-  called = set_at c.called other true;
+-- whether a word shows what its session loaded
+abbrev pub shows_looked : Option ℕ → ℕ → Bool
+shows_looked None word = false
+shows_looked (Some shown) word = word == shown
+
+-- The session calls `other`, and owes it no call any more. A call before the word changed counts for nothing: the other may park after it.
+abbrev pub calling : (ℕ → ℕ) → Calls → ℕ → ℕ → Calls
+calling word c session other = record c {
+  called = set_at c.called other (c.called other || not (shows_looked (c.looked other) (word other)));
   owed = set_at c.owed session (set_at (c.owed session) other false);
 }
 

@@ -1,6 +1,6 @@
 use Rattle.std.proofs.Common.{◌≡◌, ℕ, Bool, true, false, Some, None, refl, sym, ap, ◌∙◌, subst, inl, inr}
-use Rattle.std.specs.Prelude.{◌==◌, if◌then◌else◌}
-use Rattle.std.proofs.lemmas.Bool.{cases_eq, cases_Bool, both_ways, cond-true, cond-false, eq-eqb}
+use Rattle.std.specs.Prelude.{◌==◌, ◌||◌, not, if◌then◌else◌}
+use Rattle.std.proofs.lemmas.Bool.{cases_eq, cases_Bool, both_ways, cond-true, cond-false, eq-eqb, ne_eqb, or_right}
 use Rattle.lock_table.specs.Put.{set_at}
 use Rattle.lock_table.proofs.Lemmas.Put.{set_at-here, set_at-else}
 use Rattle.lock_world.specs.declared.events.Step.{Step}
@@ -9,7 +9,7 @@ use Rattle.lock_world.specs.WaitWord.{wait_state}
 use Rattle.lock_world.specs.WaitLists.{after_seeing_none}
 use Rattle.lock_world.specs.Happens.{HappensStep}
 use Rattle.lock_world.specs.Happens.Lists.{sleepers}
-use Rattle.lock_world.specs.Wakes.Calling.{Calls, ShowsWaiting, ShowsUntold, EachIsCalled, looking, storing, changing, asking, calling, wait_calls_after, sleep_calls_after}
+use Rattle.lock_world.specs.Wakes.Calling.{Calls, ShowsWaiting, ShowsUntold, EachIsCalled, looking, storing, changing, asking, calling, shows_looked, wait_calls_after, sleep_calls_after}
 use Rattle.lock_world.proofs.Lemmas.Wakes.Readings.{none-some, some-same, row-here, row-away}
 use Rattle.lock_world.proofs.Lemmas.LawfulSteps.{LawfulStep, step_of, world_after, asking_to_cancel, loading_wait, setting_waiting, marking_first, marking_next, clearing_seen, clearing_in_hand, leaving_queue, joining_list, leaving_list, taking_off, telling, loading_sleep, after_each}
 
@@ -56,12 +56,17 @@ module _ (ParksOn : ℕ → Type 0) (word : ℕ → ℕ) (c : Calls) (each : Eac
     | inr later ↦ inr later
   ]
 
-  pub calling-called : (s k : ℕ) → EachIsCalled ParksOn word (calling c s k)
+  pub calling-called : (s k : ℕ) → EachIsCalled ParksOn word (calling word c s k)
   calling-called s k j m looked parks = elim (cases_eq j k) [
-    | inl same ↦ inr (inl (set_at-here c.called k true j same))
+    | inl same ↦ elim (cases_eq (word k) m) [
+      | inl shows ↦ inl (ap word same ∙ shows)
+      | inr changed ↦ inr (inl (set_at-here c.called k (c.called k || not (shows_looked (c.looked k) (word k))) j same
+        ∙ or_right (c.called k) (not (shows_looked (c.looked k) (word k)))
+          (ap not (ap (λ l. shows_looked l (word k)) (ap c.looked (sym same) ∙ looked) ∙ ne_eqb (word k) m changed))))
+    ]
     | inr other ↦ elim (each j m looked parks) [
       | inl is ↦ inl is
-      | inr (inl called) ↦ inr (inl (set_at-else c.called k true j other ∙ called))
+      | inr (inl called) ↦ inr (inl (set_at-else c.called k (c.called k || not (shows_looked (c.looked k) (word k))) j other ∙ called))
       | inr (inr owed) ↦ inr (inr (owed.0, row-away c.owed s k false (owed.0) j other ∙ owed.1))
     ]
   ]
