@@ -8,8 +8,8 @@ use lock_world::{Event, Step, Word};
 use modes_core::{Mode, SessionId, Tag};
 use std::alloc::Global;
 
-/// Whether 2,000 rounds of 64 sessions, played with room from `alloc`, lead to the holds and the words that they
-/// should lead to.
+/// Whether 2,000 rounds of 64 sessions, played with room from `alloc`, lead to the holds and the words that
+/// they should lead to.
 pub fn is_right(alloc: Global) -> Result<bool> {
     let mut events = Vec::new(alloc);
     for number in 0..64u16 {
@@ -27,8 +27,8 @@ pub fn is_right(alloc: Global) -> Result<bool> {
     Ok(holds_are_right(&plain) && words_are_right(&plain))
 }
 
-/// Adds the events of round `round` to `events`. The answer is no where the round's session has no number that a
-/// session can have.
+/// Adds the events of round `round` to `events`. The answer is no where the round's session has no number
+/// that a session can have.
 fn add_round(events: &mut Vec<Event>, round: u32) -> Result<bool> {
     let number = (round % 64) as u16;
     let Some(session) = SessionId::new(number) else {
@@ -85,9 +85,9 @@ fn done_in(kind: u32, tag: Tag) -> Move {
     }
 }
 
-/// Whether `plain` has 64 holds at least, in order. Session k meets relation k modulo 4 alone, in all three kinds of
-/// rounds, over and over; the last round of each session decides whether its `RowShareLock` is there, and no other
-/// session's holds are in the way.
+/// Whether `plain` has 64 holds at least, in order. Session k meets relation k modulo 4 alone, in all three
+/// kinds of rounds, over and over; the last round of each session decides whether its `RowShareLock` is
+/// there, and no other session's holds are in the way.
 fn holds_are_right(plain: &Plain) -> bool {
     let holds = plain.holds();
     for place in 1..holds.len() {
@@ -98,8 +98,8 @@ fn holds_are_right(plain: &Plain) -> bool {
     holds.len() >= 64
 }
 
-/// Whether all partitions of `plain` are free, and just the sessions that were asked to cancel have that in their
-/// wait words.
+/// Whether all partitions of `plain` are free, and just the sessions that were asked to cancel have that in
+/// their wait words.
 fn words_are_right(plain: &Plain) -> bool {
     for partition in 0..16u8 {
         if plain.word(Word::Partition(partition)) != 0x2000_0000 {

@@ -32,8 +32,8 @@ pub fn look(plain: &Plain, words: &mut Words) -> Option<bool> {
     }
 }
 
-/// Whether in `plain` the words of one kind, from a first number to a last one, all show one value: `words` name the
-/// kind, both numbers and the value.
+/// Whether in `plain` the words of one kind, from a first number to a last one, all show one value: `words`
+/// name the kind, both numbers and the value.
 fn words_show(plain: &Plain, words: &mut Words) -> Option<bool> {
     let kind = words.next()?;
     let first = index(words)?;
@@ -58,8 +58,8 @@ fn numbered_word(kind: &str, number: u16) -> Option<Word> {
     }
 }
 
-/// Whether in `plain` the strong lock counters, from a first index to a last one, all show one value: `words` name
-/// both indexes and the value.
+/// Whether in `plain` the strong lock counters, from a first index to a last one, all show one value: `words`
+/// name both indexes and the value.
 fn counters_show(plain: &Plain, words: &mut Words) -> Option<bool> {
     let first = index(words)?;
     let last = index(words)?;
@@ -114,8 +114,8 @@ fn wait_is(plain: &Plain, words: &mut Words) -> Option<bool> {
     }
 }
 
-/// Whether in `plain` the wait at a place has the mask that `words` say, of the modes that its session held when it
-/// joined the queue.
+/// Whether in `plain` the wait at a place has the mask that `words` say, of the modes that its session held
+/// when it joined the queue.
 fn wait_held_is(plain: &Plain, words: &mut Words) -> Option<bool> {
     let place = usize::from(small_number(words)?);
     let mask = index(words)?;
@@ -125,7 +125,8 @@ fn wait_held_is(plain: &Plain, words: &mut Words) -> Option<bool> {
     }
 }
 
-/// Whether the sleeper of `plain` at a place is the one that `words` say: they name the place and the sleeper.
+/// Whether the sleeper of `plain` at a place is the one that `words` say: they name the place and the
+/// sleeper.
 fn sleeper_is(plain: &Plain, words: &mut Words) -> Option<bool> {
     let place = usize::from(small_number(words)?);
     let lock = index(words)?;

@@ -1,5 +1,5 @@
-//! Runs scripts of events on the plain machine, and compares what it shows with what they say. The words of the
-//! command line name the scripts.
+//! Runs scripts of events on the plain machine, and compares what it shows with what they say. The words of
+//! the command line name the scripts.
 #![tactic(auto)]
 
 mod long_run;
@@ -13,8 +13,8 @@ use play::play_script;
 use std::process::ExitCode;
 use std::{env, fs};
 
-/// Plays by `rt` the scripts that the command line names, and the long run. The status is that of a failure where a
-/// script or the long run shows something else than it should.
+/// Plays by `rt` the scripts that the command line names, and the long run. The status is that of a failure
+/// where a script or the long run shows something else than it should.
 fn main(rt: HostRuntime) -> Result<ExitCode> {
     let names: Vec<String> = env::args(&rt)?.collect(rt.alloc())?;
     let mut is_right = true;

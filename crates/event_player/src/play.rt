@@ -1,9 +1,9 @@
 //! The play of a script, line by line.
 //!
-//! `test NAME` begins a test, with one group of slots a session, or as many as `groups N` says. `given EVENTS` adds
-//! events that all of its cases begin with, `case EVENTS` begins a case, `then EVENTS` adds events to it, and
-//! `see LOOKS` runs its events and looks at what the machine shows. Events and looks are parted by semicolons,
-//! their words by blanks; a line that begins with `#` is a comment.
+//! `test NAME` begins a test, with one group of slots a session, or as many as `groups N` says.
+//! `given EVENTS` adds events that all of its cases begin with, `case EVENTS` begins a case, `then EVENTS`
+//! adds events to it, and `see LOOKS` runs its events and looks at what the machine shows. Events and looks
+//! are parted by semicolons, their words by blanks; a line that begins with `#` is a comment.
 
 use crate::looks::look;
 use crate::steps::parse_step;
@@ -34,8 +34,8 @@ enum Played {
     Unread,
 }
 
-/// Plays `script`, and prints the names of its tests, and the lines that are wrong or cannot be read. The answer is
-/// whether there are no such lines.
+/// Plays `script`, and prints the names of its tests, and the lines that are wrong or cannot be read. The
+/// answer is whether there are no such lines.
 pub fn play_script(rt: &(impl AllocGlobal + Print), script: &str) -> Result<bool> {
     let alloc = rt.alloc();
     let mut test = Test {
@@ -112,8 +112,8 @@ fn add_events(events: &mut Vec<Event>, text: &str) -> Result<Played> {
     Ok(Played::Well)
 }
 
-/// Adds the event that `words` name to `events`, or the events of a walk, and answers whether `words` name an event
-/// or a walk.
+/// Adds the event that `words` name to `events`, or the events of a walk, and answers whether `words` name an
+/// event or a walk.
 fn add_event(events: &mut Vec<Event>, words: &mut Words) -> Result<bool> {
     let (Some(session), Some(verb)) = (session(words), words.next()) else {
         return Ok(false);
@@ -134,8 +134,8 @@ pub fn add(events: &mut Vec<Event>, session: SessionId, step: Step) -> Result<()
     Ok(())
 }
 
-/// Adds to `events` those by which the session `whose` goes past the others that `words` name: for each of these
-/// sessions, `whose` takes the lock of its slots, and puts it passing.
+/// Adds to `events` those by which the session `whose` goes past the others that `words` name: for each of
+/// these sessions, `whose` takes the lock of its slots, and puts it passing.
 fn add_walk(events: &mut Vec<Event>, whose: SessionId, words: &mut Words) -> Result<bool> {
     let Some((first, last, tag, mode)) = parse_walk(words) else {
         return Ok(false);

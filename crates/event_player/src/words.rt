@@ -72,8 +72,8 @@ pub fn mode(words: &mut Words) -> Option<Mode> {
     Mode::from_name(words.next()?)
 }
 
-/// A tag, by the next of `words`: `DB/REL` is a relation, `DB/CLASS/OBJ/SUB` an object and `adv/DB/K1/K2/SUB` what
-/// an advisory lock is on.
+/// A tag, by the next of `words`: `DB/REL` is a relation, `DB/CLASS/OBJ/SUB` an object and `adv/DB/K1/K2/SUB`
+/// what an advisory lock is on.
 pub fn tag(words: &mut Words) -> Option<Tag> {
     let word = words.next()?;
     if let Some(numbers) = word.strip_prefix("adv/") {

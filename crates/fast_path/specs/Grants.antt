@@ -19,11 +19,12 @@ use Rattle.fast_path.specs.Slots.{count_in, one_more_in, AreCounted, AreUseCount
 
 -- Grants by the fast path, as the session's account and its trace have them.
 
--- The mode is set in the slot that the relation has, or in the highest-numbered one of its group that is not in use,
--- and the group's use count is raised in the second case alone. With the lock of the session's own slots in hand, the
--- one load of the object's counter shows 0, and then `seen` of the group's slots are loaded, from the highest-numbered
--- one down: as far as the relation's, or as one not in use above which as many are in use as the use count says, or
--- else all. No other step joins the trace; `before` is what it had until that lock was taken.
+-- The mode is set in the slot that the relation has, or in the highest-numbered one of its group that is not
+-- in use, and the group's use count is raised in the second case alone. With the lock of the session's own
+-- slots in hand, the one load of the object's counter shows 0, and then `seen` of the group's slots are
+-- loaded, from the highest-numbered one down: as far as the relation's, or as one not in use above which as
+-- many are in use as the use count says, or else all. No other step joins the trace; `before` is what it had
+-- until that lock was taken.
 pub record GrantsInSlot (groups number : ℕ) (a : Account) (before : List TraceEntry) (uses : UseCounts) (tag : Tag)
     (mode : Mode) (b : Account) (left : UseCounts) : Type 0 where
   pub word : ℕ → ℕ
@@ -100,11 +101,13 @@ Grants groups number a uses tag mode (Err refusal) b left = ⊥
 abbrev pub with_look : ℕ → List TraceEntry → ℕ → List TraceEntry
 with_look number before shown = before ++ Loaded (Fast number) shown ∷ []
 
--- The lock of its own slots is not taken: it is held, or changed between the load of its word and the exchange.
+-- The lock of its own slots is not taken: it is held, or changed between the load of its word and the
+-- exchange.
 abbrev pub IsBusy : ℕ → Account → Account → Type 0
 IsBusy number a b = FoundItHeld number a b ⊎ FoundItChanged number a b
 
--- What a grant does that waits for nobody: the lock of its own slots is tried once, after a load that shows it free.
+-- What a grant does that waits for nobody: the lock of its own slots is tried once, after a load that shows
+-- it free.
 abbrev pub TriesGrant :
     ℕ → ℕ → Account → UseCounts → Tag → Mode → Result (Unit {0}) Refusal → Account → UseCounts → Type 0
 TriesGrant groups number a uses tag mode (Ok done) b left =

@@ -11,8 +11,8 @@ use Rattle.fast_path.specs.Slots.{IsOfGroup, group_of_tag, group_loads, account_
 
 -- Releases by the fast path, as the session's account and its trace have them.
 
--- All slots of the relation's group are loaded with their lock in hand, the mode is cleared in the one that has it, and the
--- group's use count is then the number of its slots in use.
+-- All slots of the relation's group are loaded with their lock in hand, the mode is cleared in the one that
+-- has it, and the group's use count is then the number of its slots in use.
 pub record ClearsSlot (groups number : ℕ) (a : Account) (uses : UseCounts) (tag : Tag) (mode : Mode) (b : Account)
     (left : UseCounts) : Type 0 where
   pub word : ℕ → ℕ

@@ -54,15 +54,16 @@ abbrev pub times_shown : List SlotRow → ℕ → Tag → Mode → ℕ
 times_shown rows session tag mode =
     count_by (λ row. (row.session == session) && (tag_eq row.tag tag && mode_eq row.mode mode)) rows
 
--- the loads by which all rows are found: of each session below the limit the database, and then the words of its groups' slots
+-- the loads by which all rows are found: of each session below the limit the database, and then the words of
+-- its groups' slots
 unfoldable pub loads_of_all : ℕ → ℕ → (ℕ → ℕ) → (ℕ → ℕ → ℕ) → List TraceEntry
 loads_of_all groups zero database word = []
 loads_of_all groups (suc session) database word =
     loads_of_all groups session database word
     ++ Loaded (Database session) (database session) ∷ all_loads groups session (word session)
 
--- A session's slots as the session of this number, which shares their lock, loads them: these are their words, and with
--- this database, which of its own slots is its own, they show what is held by them.
+-- A session's slots as the session of this number, which shares their lock, loads them: these are their
+-- words, and with this database, which of its own slots is its own, they show what is held by them.
 pub record ReadsSlots (groups number : ℕ) (a : Account) (session database : ℕ) (word : ℕ → ℕ) : Type 0 where
   pub slots : SlotsInHand
   pub knows : KnowsSlots groups number a session slots
@@ -70,10 +71,10 @@ pub record ReadsSlots (groups number : ℕ) (a : Account) (session database : �
   pub holds : slots.holds ≡ slot_holds database word
   pub own_database : session ≡ number → database ≡ a.fast.database
 
--- The rows of all sessions stand behind what the list had, and nothing else has changed but the trace, which has the loads
--- that they tell of, and what the session remembers of its own slots: from its own turn on that is what it loaded there, which
--- is no more than before. The lock of each session's slots is shared while they are loaded. Where memory ran out the list
--- is as before, and sessions were loaded up to some number.
+-- The rows of all sessions stand behind what the list had, and nothing else has changed but the trace, which
+-- has the loads that they tell of, and what the session remembers of its own slots: from its own turn on that
+-- is what it loaded there, which is no more than before. The lock of each session's slots is shared while
+-- they are loaded. Where memory ran out the list is as before, and sessions were loaded up to some number.
 pub record ListsSlots (groups number limit : ℕ) (a : Account) (before : List SlotRow)
     (result : Result (Unit {0}) NoMemory) (after : List SlotRow) (b : Account) : Type 0 where
   pub database : ℕ → ℕ

@@ -36,7 +36,8 @@ pub record IsSeenOf (group : ℕ) (word : ℕ → ℕ) (relation : ℕ) (slot : 
   pub shown : slot.word ≡ word slot.number
   pub its : is_slot_of slot.word relation ≡ true
 
--- The slot was seen among those of the group with these words: it is the highest-numbered one that is not in use.
+-- The slot was seen among those of the group with these words: it is the highest-numbered one that is not in
+-- use.
 pub record IsSeenUnused (group : ℕ) (word : ℕ → ℕ) (slot : SeenSlot) : Type 0 where
   pub shown : slot.word ≡ word slot.number
   pub highest : IsHighestUnused group word slot.number
@@ -62,7 +63,8 @@ pub record SightsForGrant (group : ℕ) (word : ℕ → ℕ) (relation : ℕ) (s
   pub unused : IfSome seen.highest_unused (IsSeenUnused group word)
   pub full : IfNone seen.of_relation (IfNone seen.highest_unused (IsAllInUse group word))
 
--- the loads of a session's slots at these places, of as many as this number says from the first place on, which show these words
+-- the loads of a session's slots at these places, of as many as this number says from the first place on,
+-- which show these words
 unfoldable pub slot_loads : ℕ → (ℕ → ℕ) → (ℕ → ℕ) → ℕ → List TraceEntry
 slot_loads owner which word zero = []
 slot_loads owner which word (suc k) =
@@ -108,8 +110,9 @@ AreCounted word counts = (group : ℕ) → group < most_groups → used_in group
 abbrev pub AreUseCounts : (ℕ → ℕ) → Type 0
 AreUseCounts counts = (group : ℕ) → group < most_groups → counts group ≤ group_size
 
--- Between two calls on the fast path the session has no lightweight lock in hand, nor shares one of slots, and in each group its use
--- count is not below the number of its slots in use (FastPathLocalUseCount in lock.c, in version 18 FastPathLocalUseCounts).
+-- Between two calls on the fast path the session has no lightweight lock in hand, nor shares one of slots,
+-- and in each group its use count is not below the number of its slots in use (FastPathLocalUseCount in
+-- lock.c, in version 18 FastPathLocalUseCounts).
 pub record IsReady (groups : ℕ) (a : Account) (uses : UseCounts) : Type 0 where
   pub no_content : a.hand ≡ (λ _. None)
   pub no_slots : a.fast.slots ≡ (λ _. None)

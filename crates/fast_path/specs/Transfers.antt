@@ -16,7 +16,8 @@ use Rattle.fast_path.specs.Slots.{IsOfGroup, group_of_tag, group_loads, NoneInGr
 
 -- The transfer of fast-path locks into the lock table, as the trace of the session that makes it has it.
 
--- the content with the owner's modes of a slot's word as holds on the object, those with numbers below this one
+-- the content with the owner's modes of a slot's word as holds on the object, those with numbers below this
+-- one
 abbrev pub adopting : Content → ℕ → Tag → ℕ → ℕ → Content
 adopting content owner tag word below = record {
   holds = λ session object mode.
@@ -42,8 +43,8 @@ pub record FindsNothing (groups owner : ℕ) (tag : Tag) (steps : List TraceEntr
   pub none : NoneInGroup (group_of_tag groups tag) word (relation_of tag)
   pub loads : steps ≡ finding groups owner tag word
 
--- A turn in which the modes of the slot that the relation has, which shows this word, become holds in the table by one
--- episode, as far as their numbers are below this one.
+-- A turn in which the modes of the slot that the relation has, which shows this word, become holds in the
+-- table by one episode, as far as their numbers are below this one.
 pub record Adopts (groups owner : ℕ) (tag : Tag) (shown below : ℕ) (steps : List TraceEntry) : Type 0 where
   pub word : ℕ → ℕ
   pub slot : ℕ
@@ -86,8 +87,8 @@ pub record CutsShort (groups limit : ℕ) (tag : Tag) (steps : List TraceEntry) 
   pub stops : StopsTurn groups owner tag turn
   pub joined : steps ≡ before ++ turn
 
--- What of the account is another than before: what is counted, what it remembers of its own slots, which is no more
--- than before, and the trace.
+-- What of the account is another than before: what is counted, what it remembers of its own slots, which is
+-- no more than before, and the trace.
 pub record IsAfterScan (a : Account) (counted : List Counted) (steps : List TraceEntry) (b : Account) : Type 0 where
   pub no_more : ShowsNoMore b.fast.remembered a.fast.remembered
   pub account : b ≡ record a {
@@ -107,7 +108,8 @@ pub record IsCutShort (groups limit : ℕ) (a : Account) (tag : Tag) (b : Accoun
   pub cut : CutsShort groups limit tag steps
   pub after : IsAfterScan a a.fast.counted steps b
 
--- What a transfer comes to by its result: the strong lock is past every session, or the transfer was cut short.
+-- What a transfer comes to by its result: the strong lock is past every session, or the transfer was cut
+-- short.
 abbrev pub TransfersOrNot : ℕ → ℕ → Account → Tag → Mode → Result (Unit {0}) NoMemory → Account → Type 0
 TransfersOrNot groups limit a tag mode (Ok done) b = Transfers groups limit a tag mode b
 TransfersOrNot groups limit a tag mode (Err refusal) b = IsCutShort groups limit a tag b

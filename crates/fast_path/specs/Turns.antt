@@ -26,7 +26,8 @@ pub record IsUnlocked (a : Account) : Type 0 where
   pub no_shared_slots : a.fast.shared_slots ≡ (λ _. None)
   pub no_zero : a.fast.zero ≡ None
 
--- the account with the lock of a session's slots in hand, and what it remembers of its own slots since, after these steps
+-- the account with the lock of a session's slots in hand, and what it remembers of its own slots since, after
+-- these steps
 abbrev pub account_holding : Account → ℕ → SlotsInHand → (ℕ → ℕ) → List TraceEntry → Account
 account_holding a owner slots remembered steps = record a {
   fast = record (a.fast) { slots = set_at a.fast.slots owner (Some slots); remembered = remembered };
@@ -43,7 +44,8 @@ pub record Looks (groups : ℕ) (a : Account) (owner shown : ℕ) (b : Account) 
   pub holds : slots.holds ≡ slot_holds shown slots.word
   pub account : b ≡ account_holding a owner slots remembered (Loaded (Database owner) shown ∷ [])
 
--- The beginning of a turn that goes past a session of the tag's database: the lock of its slots was taken, and its database was loaded.
+-- The beginning of a turn that goes past a session of the tag's database: the lock of its slots was taken,
+-- and its database was loaded.
 pub record BeginsTurn (groups : ℕ) (a : Account) (owner : ℕ) (tag : Tag) (b : Account) : Type 0 where
   pub unlocked : IsUnlocked a
   pub looked : Looks groups a owner (database_of tag) b
@@ -67,7 +69,8 @@ pub record HasSlots (a : Account) (owner slot word : ℕ) (tag : Tag) : Type 0 w
 abbrev pub hand_moving : Content → Content → Option Move → InHand
 hand_moving taken now recorded = record { taken = taken; now = now; recorded = recorded; unmarked = λ _. false }
 
--- With the object's partition in hand too: what the slots show of the object is neither there nor awaited there.
+-- With the object's partition in hand too: what the slots show of the object is neither there nor awaited
+-- there.
 pub record HasSlotsAndPart (a : Account) (owner slot word : ℕ) (tag : Tag) (taken : Content) : Type 0 where
   pub slots : SlotsInHand
   pub in_hand : a.fast.slots owner ≡ Some slots
@@ -82,8 +85,8 @@ abbrev pub IsWithout : SlotsInHand → Tag → ℕ → SlotsInHand → Type 0
 IsWithout slots tag below rest =
     (mode : Mode) → rest.holds tag mode ≡ (not (nat_lt (number_of mode) below) && slots.holds tag mode)
 
--- The modes with numbers below this one are moved, one per step: the content has them, and the adopt stands recorded, if
--- there were any.
+-- The modes with numbers below this one are moved, one per step: the content has them, and the adopt stands
+-- recorded, if there were any.
 pub record MovesBelow (a : Account) (owner slot word : ℕ) (tag : Tag) (taken : Content) (below : ℕ) (now : Content)
     (b : Account) : Type 0 where
   pub rest : SlotsInHand
@@ -103,7 +106,8 @@ pub record MovesSome (a : Account) (owner slot word : ℕ) (tag : Tag) (taken no
   pub in_slot : has_mode word refused ≡ true
   pub moves : MovesBelow a owner slot word tag taken (number_of refused) now b
 
--- What moving the modes of a slot comes to by its result: all of them are moved, or those before the one that memory ran out for.
+-- What moving the modes of a slot comes to by its result: all of them are moved, or those before the one that
+-- memory ran out for.
 abbrev pub MovesOrNot :
     Account → ℕ → ℕ → ℕ → Tag → Content → Result (Unit {0}) NoMemory → Content → Account → Type 0
 MovesOrNot a owner slot word tag taken (Ok done) now b = MovesBelow a owner slot word tag taken 4 now b
@@ -120,13 +124,15 @@ pub record AdoptsBelow (a : Account) (owner word : ℕ) (tag : Tag) (below : ℕ
         ∷ Episode (partition_of tag) taken (adopting taken owner tag word below) ∷ [];
   }
 
--- The episode in which the modes of the slot are moved as far as before the mode that there was no memory for.
+-- The episode in which the modes of the slot are moved as far as before the mode that there was no memory
+-- for.
 pub record AdoptsSome (a : Account) (owner word : ℕ) (tag : Tag) (b : Account) : Type 0 where
   pub refused : Mode
   pub in_slot : has_mode word refused ≡ true
   pub adopts : AdoptsBelow a owner word tag (number_of refused) b
 
--- What such an episode comes to by its result: all modes of the slot are moved, or those before the one that memory ran out for.
+-- What such an episode comes to by its result: all modes of the slot are moved, or those before the one that
+-- memory ran out for.
 abbrev pub AdoptsOrNot : Account → ℕ → ℕ → Tag → Result (Unit {0}) NoMemory → Account → Type 0
 AdoptsOrNot a owner word tag (Ok done) b = AdoptsBelow a owner word tag 4 b
 AdoptsOrNot a owner word tag (Err refusal) b = AdoptsSome a owner word tag b

@@ -16,10 +16,12 @@ use modes_core::{Mode, Refusal, Tag};
 use shared_rule::Board;
 use std::sync::Wait;
 
-/// Grants `mode`, which the session hasn't, on `tag`, a relation of the session's database, in one of the session's fast-path slots
-/// (`FastPathGrantRelationLock` in lock.c, and the look at `FastPathStrongRelationLocks` before it in `LockAcquireExtended`). The call waits until the lock
-/// of the session's own slots is free. Refused with `SlotsFull` where the use count of the relation's group is sixteen, which costs no step, and with
-/// `StrongCounted` where a strong lock is counted at the strong lock counter of `tag`.
+/// Grants `mode`, which the session hasn't, on `tag`, a relation of the session's database, in one of the
+/// session's fast-path slots (`FastPathGrantRelationLock` in lock.c, and the look at
+/// `FastPathStrongRelationLocks` before it in `LockAcquireExtended`). The call waits until the lock of the
+/// session's own slots is free. Refused with `SlotsFull` where the use count of the relation's group is
+/// sixteen, which costs no step, and with `StrongCounted` where a strong lock is counted at the strong lock
+/// counter of `tag`.
 #[inline(always)]
 pub fn grant<T: PartTable, B: Board<T>, R: Wait>(
     rt: &R,
@@ -49,8 +51,8 @@ pub fn grant<T: PartTable, B: Board<T>, R: Wait>(
     grant_with_slots(board, uses, group, tag, mode)
 }
 
-/// Grants `mode` on `tag` as `grant` does, without waiting: one attempt to take the lock of the session's own fast-path slots, and `Busy` where that fails
-/// (`LWLockConditionalAcquire` instead of `LWLockAcquire`).
+/// Grants `mode` on `tag` as `grant` does, without waiting: one attempt to take the lock of the session's own
+/// fast-path slots, and `Busy` where that fails (`LWLockConditionalAcquire` instead of `LWLockAcquire`).
 pub fn try_grant<T: PartTable, B: Board<T>>(
     board: &mut B,
     uses: &mut UseCounts,
@@ -79,7 +81,8 @@ pub fn try_grant<T: PartTable, B: Board<T>>(
     }
 }
 
-/// Finishes the grant of `mode` on `tag`, where the session has the lock of its own fast-path slots, and releases that lock.
+/// Finishes the grant of `mode` on `tag`, where the session has the lock of its own fast-path slots, and
+/// releases that lock.
 #[inline(always)]
 fn grant_with_slots<T: PartTable, B: Board<T>>(
     board: &mut B,

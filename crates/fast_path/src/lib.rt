@@ -1,6 +1,6 @@
-//! The fast path: weak locks on relations in a session's own slots, the counters by which strong locks announce
-//! themselves, and the transfer that moves slots out of a strong lock's way into the lock table. All of it works over
-//! any board.
+//! The fast path: weak locks on relations in a session's own slots, the counters by which strong locks
+//! announce themselves, and the transfer that moves slots out of a strong lock's way into the lock table. All
+//! of it works over any board.
 #![tactic(auto)]
 
 mod grants;

@@ -20,10 +20,11 @@ use modes_core::{Mode, SessionId, Tag};
 use shared_rule::Board;
 use std::sync::Wait;
 
-/// Appends to `rows` a row for each mode that a fast-path slot of any session shows, ordered by session, slot and mode. The lock of a session's slots is
-/// shared while they are read, one session after another: other readers don't wait, and the rows of two sessions are not of one moment. Only `rows` takes
-/// memory, and grows while such a lock is shared, as the list in `GetLockStatusData` of lock.c does; where memory runs out `rows` has what it had before the
-/// call.
+/// Appends to `rows` a row for each mode that a fast-path slot of any session shows, ordered by session, slot
+/// and mode. The lock of a session's slots is shared while they are read, one session after another: other
+/// readers don't wait, and the rows of two sessions are not of one moment. Only `rows` takes memory, and
+/// grows while such a lock is shared, as the list in `GetLockStatusData` of lock.c does; where memory runs
+/// out `rows` has what it had before the call.
 pub fn slot_rows<T: PartTable, B: Board<T>, R: Wait>(
     rt: &R,
     board: &mut B,
@@ -84,8 +85,9 @@ fn database_in(shown: u64) -> u32
     (shown & 0xFFFF_FFFF) as u32
 }
 
-/// Loads the words of the first `count` fast-path slots of `owner`, whose lock is shared, and appends to `rows` the rows of each slot as it is loaded. Where
-/// memory runs out the remaining slots are loaded nevertheless.
+/// Loads the words of the first `count` fast-path slots of `owner`, whose lock is shared, and appends to
+/// `rows` the rows of each slot as it is loaded. Where memory runs out the remaining slots are loaded
+/// nevertheless.
 fn append_slots<T: PartTable, B: Board<T>>(
     board: &mut B,
     owner: SessionId,
@@ -115,7 +117,8 @@ fn append_slots<T: PartTable, B: Board<T>>(
     listed
 }
 
-/// Appends to `rows` the rows of the fast-path slot `slot` of `session`, one for each mode that the slot shows.
+/// Appends to `rows` the rows of the fast-path slot `slot` of `session`, one for each mode that the slot
+/// shows.
 fn append_slot(
     session: SessionId,
     database: u32,
@@ -134,7 +137,8 @@ fn append_slot(
     append_mode(session, database, slot, word, Mode::RowExclusive, rows)
 }
 
-/// Appends to `rows` the row of `mode` on the relation of a fast-path slot, if the slot's `word` shows that mode.
+/// Appends to `rows` the row of `mode` on the relation of a fast-path slot, if the slot's `word` shows that
+/// mode.
 fn append_mode(
     session: SessionId,
     database: u32,

@@ -15,9 +15,10 @@ use modes_core::{Mode, Tag};
 use shared_rule::Board;
 use std::sync::Wait;
 
-/// Releases `mode` on `tag`, a relation of the session's database, where one of the session's fast-path slots has that mode, and answers whether one had it
-/// (`FastPathUnGrantRelationLock` in lock.c). No slot is looked at where the use count of the relation's group is 0; otherwise the use count is afterwards
-/// the number of that group's slots in use. A mode that the session holds and no slot has is in the lock table.
+/// Releases `mode` on `tag`, a relation of the session's database, where one of the session's fast-path slots
+/// has that mode, and answers whether one had it (`FastPathUnGrantRelationLock` in lock.c). No slot is looked
+/// at where the use count of the relation's group is 0; otherwise the use count is afterwards the number of
+/// that group's slots in use. A mode that the session holds and no slot has is in the lock table.
 #[inline(always)]
 pub fn ungrant<T: PartTable, B: Board<T>, R: Wait>(
     rt: &R,

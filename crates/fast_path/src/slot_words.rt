@@ -31,9 +31,10 @@ pub(crate) struct Sighting {
     pub(crate) used_count: u8,
 }
 
-/// Loads the words of the fast-path slots of `owner` in `group`, whose lock the session has, and answers what a release or a transfer of a lock on `relation`
-/// asks for. Where sessions have one group of slots each the call makes a separate walk, in which the compiler knows the index of each slot, whatever the
-/// number of sessions.
+/// Loads the words of the fast-path slots of `owner` in `group`, whose lock the session has, and answers what
+/// a release or a transfer of a lock on `relation` asks for. Where sessions have one group of slots each the
+/// call makes a separate walk, in which the compiler knows the index of each slot, whatever the number of
+/// sessions.
 #[inline(always)]
 pub(crate) fn look_through<T: PartTable, B: Board<T>>(
     board: &mut B,
@@ -106,8 +107,9 @@ pub(crate) struct SightingForGrant {
     pub(crate) highest_unused: Option<SeenSlot>,
 }
 
-/// What a grant on `relation` looks for in the fast-path slots of `owner` in `group`, found by `look_from_top`. Where sessions have one group of slots each
-/// the call makes a separate walk, in which the compiler knows the index of each slot.
+/// What a grant on `relation` looks for in the fast-path slots of `owner` in `group`, found by
+/// `look_from_top`. Where sessions have one group of slots each the call makes a separate walk, in which the
+/// compiler knows the index of each slot.
 #[inline(always)]
 pub(crate) fn look_for_grant<T: PartTable, B: Board<T>>(
     board: &mut B,
@@ -135,9 +137,10 @@ pub(crate) fn look_for_grant<T: PartTable, B: Board<T>>(
     look_from_top(board, owner, group, relation, use_count)
 }
 
-/// Loads the words of the fast-path slots of `owner` in `group`, whose lock the session has, from the highest-numbered slot down, as far as a grant asks for:
-/// down to the slot in use for `relation` (where the loop of `FastPathGrantRelationLock` in lock.c stops too), or to a slot not in use above which
-/// `use_count` slots are in use, since no slot below that one is in use then.
+/// Loads the words of the fast-path slots of `owner` in `group`, whose lock the session has, from the
+/// highest-numbered slot down, as far as a grant asks for: down to the slot in use for `relation` (where the
+/// loop of `FastPathGrantRelationLock` in lock.c stops too), or to a slot not in use above which `use_count`
+/// slots are in use, since no slot below that one is in use then.
 #[inline(always)]
 fn look_from_top<T: PartTable, B: Board<T>>(
     board: &mut B,

@@ -1,4 +1,5 @@
-//! The transfer of fast-path locks that are in a strong lock's way (`FastPathTransferRelationLocks` in lock.c).
+//! The transfer of fast-path locks that are in a strong lock's way (`FastPathTransferRelationLocks` in
+//! lock.c).
 
 ghost use Rattle.std.specs.Prelude.{◌≡◌, ◌<◌, ◌≤◌, ◌*◌, ◌∷◌, false, true, None, length};
 ghost use Rattle.modes_core.specs.Tag.{is_strong_on};
@@ -21,10 +22,12 @@ use modes_core::{Mode, SessionId, Tag};
 use shared_rule::Board;
 use std::sync::Wait;
 
-/// Counts a strong lock, `mode` on `tag`, and goes past every session that there can be, whether its number is issued or not, the caller's too: past each one
-/// once that session's locks on `tag` are out of its fast-path slots and in the lock table (`BeginStrongLockAcquire` and `FastPathTransferRelationLocks` in
-/// lock.c). Where memory for the lock table runs out the strong lock is counted no more; what was moved until then stays moved. The cost is two atomic steps
-/// and a load for each session, and sixteen loads more, of the slots of the relation's group, for each session of the database of `tag`.
+/// Counts a strong lock, `mode` on `tag`, and goes past every session that there can be, whether its number
+/// is issued or not, the caller's too: past each one once that session's locks on `tag` are out of its
+/// fast-path slots and in the lock table (`BeginStrongLockAcquire` and `FastPathTransferRelationLocks` in
+/// lock.c). Where memory for the lock table runs out the strong lock is counted no more; what was moved until
+/// then stays moved. The cost is two atomic steps and a load for each session, and sixteen loads more, of the
+/// slots of the relation's group, for each session of the database of `tag`.
 pub fn transfer<T: PartTable, B: Board<T>, R: Wait>(
     rt: &R,
     board: &mut B,
@@ -59,8 +62,9 @@ pub fn transfer<T: PartTable, B: Board<T>, R: Wait>(
     Ok(())
 }
 
-/// Goes past the session `owner` with the strong lock of `mode` on `tag` (a turn of the loop of `FastPathTransferRelationLocks` in lock.c). Where `owner` is
-/// a session of another database, or not issued, its fast-path slots are not looked at.
+/// Goes past the session `owner` with the strong lock of `mode` on `tag` (a turn of the loop of
+/// `FastPathTransferRelationLocks` in lock.c). Where `owner` is a session of another database, or not issued,
+/// its fast-path slots are not looked at.
 fn pass<T: PartTable, B: Board<T>, R: Wait>(
     rt: &R,
     board: &mut B,
@@ -86,8 +90,9 @@ fn pass<T: PartTable, B: Board<T>, R: Wait>(
     pass_in_database(rt, board, owner, tag, mode)
 }
 
-/// Goes past `owner`, a session of the tag's database, whose slot lock the caller has, once the modes of `owner` on `tag` are out of its fast-path slot. This
-/// is a separate function, so that going past sessions of other databases takes no stack for it.
+/// Goes past `owner`, a session of the tag's database, whose slot lock the caller has, once the modes of
+/// `owner` on `tag` are out of its fast-path slot. This is a separate function, so that going past sessions
+/// of other databases takes no stack for it.
 #[inline(never)]
 fn pass_in_database<T: PartTable, B: Board<T>, R: Wait>(
     rt: &R,
@@ -133,7 +138,8 @@ fn pass_in_database<T: PartTable, B: Board<T>, R: Wait>(
     }
 }
 
-/// What a turn of a transfer found: a fast-path slot, of the session that it goes past, that is in use for the relation of the strong lock.
+/// What a turn of a transfer found: a fast-path slot, of the session that it goes past, that is in use for
+/// the relation of the strong lock.
 #[derive(Clone, Copy)]
 struct Turn<'a> {
     /// The session whose fast-path slot the turn found.
@@ -148,8 +154,8 @@ struct Turn<'a> {
     strong: Mode,
 }
 
-/// Moves the modes that `turn` found, one after another in rising order, from the fast-path slot into the partition of the slot's relation (the inner loop of
-/// `FastPathTransferRelationLocks` in lock.c).
+/// Moves the modes that `turn` found, one after another in rising order, from the fast-path slot into the
+/// partition of the slot's relation (the inner loop of `FastPathTransferRelationLocks` in lock.c).
 fn adopt<T: PartTable, B: Board<T>, R: Wait>(
     rt: &R,
     board: &mut B,
@@ -173,7 +179,8 @@ fn adopt<T: PartTable, B: Board<T>, R: Wait>(
     moved
 }
 
-/// Moves the modes that `turn` found, one per step, to `content`, that of the partition of the slot's relation, which is in hand.
+/// Moves the modes that `turn` found, one per step, to `content`, that of the partition of the slot's
+/// relation, which is in hand.
 fn move_modes<T: PartTable, B: Board<T>>(
     board: &mut B,
     content: &mut T,

@@ -4,8 +4,8 @@ ghost use Rattle.std.specs.Prelude.{◌≡◌, ℕ, ◌<◌};
 ghost use Rattle.lock_world.specs.SlotHolds.{most_groups, group_of_relation};
 ghost use Rattle.fast_path.specs.Slots.{count_in, counting};
 
-/// The use count of each of a session's groups of fast-path slots: how many slots of the group are in use, or more (`FastPathLocalUseCount` in lock.c, in
-/// version 18 `FastPathLocalUseCounts`).
+/// The use count of each of a session's groups of fast-path slots: how many slots of the group are in use, or
+/// more (`FastPathLocalUseCount` in lock.c, in version 18 `FastPathLocalUseCounts`).
 #[derive(Clone, Copy)]
 pub struct UseCounts {
     counts: [u8; 8],
@@ -36,8 +36,8 @@ impl UseCounts {
     }
 }
 
-/// The group of fast-path slots that a lock on `relation` goes to, where a session has `groups` of them (`FAST_PATH_REL_GROUP` in lock.c of version 18, which
-/// multiplies the number first).
+/// The group of fast-path slots that a lock on `relation` goes to, where a session has `groups` of them
+/// (`FAST_PATH_REL_GROUP` in lock.c of version 18, which multiplies the number first).
 pub(crate) fn group_of(relation: u32, groups: u8) -> u8
     requires some { 0 < groups }
     ensures value { result ≡ group_of_relation groups relation }

@@ -8,8 +8,9 @@ use Rattle.place_index.specs.Notes.{Notes, no_place}
 use Rattle.local_locks.specs.declared.ends.Progress.{Progress}
 use Rattle.local_locks.specs.Slots.{Slots, slot_at, opened, IsTable}
 
--- How levels are kept: beside each slot stands a list of what the transaction had of the entry when each inner level began,
--- the first one first, up to the last level that has counted the entry. A later one began with what the entry has now.
+-- How levels are kept: beside each slot stands a list of what the transaction had of the entry when each
+-- inner level began, the first one first, up to the last level that has counted the entry. A later one began
+-- with what the entry has now.
 
 -- The lists beside all slots.
 abbrev pub Rows : Type 0
@@ -52,8 +53,8 @@ abbrev pub outer_of : ℕ → Slots → (ℕ → List ℕ) → List (List Entry)
 outer_of zero slots rows = []
 outer_of (suc level) slots rows = outer_of level slots rows ++ had level slots rows ∷ []
 
--- What holds of the lists where this many inner levels have begun. Before the place `touched` the innermost of these levels has
--- counted nothing.
+-- What holds of the lists where this many inner levels have begun. Before the place `touched` the innermost
+-- of these levels has counted nothing.
 pub record IsLeveled (slots : Slots) (rows : Rows) (depth touched : ℕ) : Type 0 where
   pub few : depth ≤ 15
   pub within : (place : ℕ) → length (row_at rows place) ≤ depth
@@ -79,7 +80,8 @@ pub record AreMoved (slots : Slots) (rows : Rows) (new_slots : Slots) (new_rows 
 abbrev pub without_level : ℕ → List ℕ → Entry → Entry
 without_level level row entry = record entry { transaction = had_in row level entry.transaction }
 
--- The end of this inner level, the innermost, has left each entry before a place what it leaves, and forgot the level there.
+-- The end of this inner level, the innermost, has left each entry before a place what it leaves, and forgot
+-- the level there.
 pub record AreSettled (level : ℕ) (slots : Slots) (rows : Rows) (new_slots : Slots) (new_rows : Rows) (place : ℕ) : Type 0 where
   pub number : length new_slots ≡ length slots
   pub lists : length new_rows ≡ length rows
@@ -91,7 +93,8 @@ pub record AreSettled (level : ℕ) (slots : Slots) (rows : Rows) (new_slots : S
 
 -- ---- a table with its levels
 
--- In the first level a count is raised at once up to the limit. In an inner one none is, and no slot is looked at first.
+-- In the first level a count is raised at once up to the limit. In an inner one none is, and no slot is
+-- looked at first.
 abbrev pub IsPaced : ℕ → ℕ → ℕ → Type 0
 IsPaced depth at_once hint = ((depth ≡ 0) × (at_once ≡ max_count)) ⊎ ((depth ≢ 0) × (at_once ≡ 0) × (no_place ≤ hint))
 

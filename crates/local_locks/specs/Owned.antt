@@ -15,10 +15,11 @@ use Rattle.local_locks.specs.declared.ends.End.{End}
 use Rattle.local_locks.specs.declared.ends.End.TheVariants.{Commit, Abort, Close, Inner}
 use Rattle.local_locks.specs.declared.records.Entry.{Entry}
 
--- What a session owns: its entries in the order of making, how many more entries can be made with no growth, for how
--- many there are slots, used up or not, and how many it may have. A transaction has levels, each begun within the one
--- before it. An entry's count for the transaction is the sum over all of them; `outer` tells them apart: for each level
--- but the innermost, the first one first, what it and those before it have together, as entries with no session's count.
+-- What a session owns: its entries in the order of making, how many more entries can be made with no growth,
+-- for how many there are slots, used up or not, and how many it may have. A transaction has levels, each
+-- begun within the one before it. An entry's count for the transaction is the sum over all of them; `outer`
+-- tells them apart: for each level but the innermost, the first one first, what it and those before it have
+-- together, as entries with no session's count.
 pub record Owned : Type 0 where
   pub entries : List Entry
   pub outer : List (List Entry)
@@ -102,7 +103,8 @@ abbrev pub level_count_of : Owned → Tag → Mode → ℕ → ℕ
 level_count_of owned tag mode zero = 0
 level_count_of owned tag mode (suc level) = count_up_to owned (suc level) tag mode - count_up_to owned level tag mode
 
--- How often an owner can give an object and mode back: the session what it has, and the transaction what its innermost level has.
+-- How often an owner can give an object and mode back: the session what it has, and the transaction what its
+-- innermost level has.
 abbrev pub own_count_of : Owned → Tag → Mode → Owner → ℕ
 own_count_of owned tag mode Session = owner_count_of owned.entries tag mode Session
 own_count_of owned tag mode Transaction = level_count_of owned tag mode (level_of owned)
@@ -139,8 +141,8 @@ acquired_as entries tag mode = if has_entry entries tag mode then AlreadyHeld el
 
 -- ---- the end of a transaction or of the session
 
--- What an abort leaves of the session's count: all of it in the user method, that of advisory locks, and nothing in the
--- default method.
+-- What an abort leaves of the session's count: all of it in the user method, that of advisory locks, and
+-- nothing in the default method.
 abbrev pub kept_by_abort : LockMethod → ℕ → ℕ
 kept_by_abort Default count = 0
 kept_by_abort User count = count
@@ -169,14 +171,15 @@ ended_by end entries = map (λ entry. (entry.tag, entry.mode)) (filter (is_ended
 abbrev pub left_by : End → List Entry → List Entry
 left_by end entries = map (after_end end) (filter (λ entry. not (is_ended end entry)) entries)
 
--- The entries after one step of the end: the first one that the end takes away is gone, those before it have the counts
--- that the end leaves, and those after it are as they were.
+-- The entries after one step of the end: the first one that the end takes away is gone, those before it have
+-- the counts that the end leaves, and those after it are as they were.
 abbrev pub with_next_ended : End → List Entry → List Entry
 with_next_ended end [] = []
 with_next_ended end (entry ∷ entries) =
     if is_ended end entry then entries else after_end end entry ∷ with_next_ended end entries
 
--- what is left of the outer levels: all but the last for the end of the innermost level, and none for that of all
+-- what is left of the outer levels: all but the last for the end of the innermost level, and none for that of
+-- all
 abbrev pub outer_after : End → List (List Entry) → List (List Entry)
 outer_after Inner outer = take (length outer - 1) outer
 outer_after end outer = []
@@ -193,8 +196,8 @@ pub record IsCounted (entry : Entry) : Type 0 where
   pub transaction : entry.transaction ≤ max_count
   pub session : entry.session ≤ max_count
 
--- Each object and mode is there once, none with all counts 0, and no more entries are there than may be. The levels are
--- not too many, and with each one more the transaction has no less.
+-- Each object and mode is there once, none with all counts 0, and no more entries are there than may be. The
+-- levels are not too many, and with each one more the transaction has no less.
 pub record IsWellOwned (owned : Owned) : Type 0 where
   pub once : IsDistinct are_of_same owned.entries
   pub counted : All IsCounted owned.entries
@@ -202,8 +205,8 @@ pub record IsWellOwned (owned : Owned) : Type 0 where
   pub levels : level_of owned ≤ max_level
   pub rising : (tag : Tag) (mode : Mode) (level : ℕ) → count_up_to owned level tag mode ≤ count_up_to owned (suc level) tag mode
 
--- One more acquire of the object and mode by this owner can be entered: the count has room, and where there is no entry
--- yet one more may be made, and that with no growth.
+-- One more acquire of the object and mode by this owner can be entered: the count has room, and where there
+-- is no entry yet one more may be made, and that with no growth.
 pub record IsReserved (owned : Owned) (tag : Tag) (mode : Mode) (owner : Owner) : Type 0 where
   pub countable : owner_count_of owned.entries tag mode owner < max_count
   pub allowed : has_entry owned.entries tag mode ≡ false → length owned.entries < owned.max_local
@@ -211,7 +214,8 @@ pub record IsReserved (owned : Owned) (tag : Tag) (mode : Mode) (owner : Owner) 
 
 -- ---- growth
 
--- A table with this many slots may grow where it has these entries: more than half of the slots have one, if there is a slot.
+-- A table with this many slots may grow where it has these entries: more than half of the slots have one, if
+-- there is a slot.
 abbrev pub IsCrowded : ℕ → List Entry → Type 0
 IsCrowded slots entries = (slots ≡ 0) ⊎ (slots < 2 * length entries)
 

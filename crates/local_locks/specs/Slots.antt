@@ -15,8 +15,9 @@ use Rattle.local_locks.specs.declared.ends.End.{End}
 use Rattle.local_locks.specs.declared.ends.End.TheVariants.{Commit, Abort, Close, Inner}
 use Rattle.local_locks.specs.Owned.{count_in_all, entries_but, entry_for, is_of, is_ended, after_end, IsCounted}
 
--- How the entries are kept: in slots in the order of making, where a slot whose entry is gone is empty, with an index
--- from the hash of object and mode to the slot's place. An empty slot has an entry with both counts 0.
+-- How the entries are kept: in slots in the order of making, where a slot whose entry is gone is empty, with
+-- an index from the hash of object and mode to the slot's place. An empty slot has an entry with both counts
+-- 0.
 abbrev pub Slots : Type 0
 Slots = List (Option Entry)
 
@@ -76,8 +77,8 @@ times_of key hash = if hash == key_hash key.0 key.1 then 1 else 0
 abbrev pub IsOnce : Slots → Type 0
 IsOnce slots = (i j : ℕ) (key : Tag × Mode) → key_at slots i ≡ Some key → key_at slots j ≡ Some key → i ≡ j
 
--- The index has the place of each entry under its hash alone, and no place past the slots. An end may have left notes of
--- empty slots. Each object and mode is there once.
+-- The index has the place of each entry under its hash alone, and no place past the slots. An end may have
+-- left notes of empty slots. Each object and mode is there once.
 pub record IsIndexed (slots : Slots) (index : Notes) : Type 0 where
   pub noted : (hash place : ℕ) (key : Tag × Mode) → key_at slots place ≡ Some key → times index hash place ≡ times_of key hash
   pub within : (hash place : ℕ) → length slots ≤ place → times index hash place ≡ 0
@@ -108,14 +109,15 @@ abbrev pub IsSpot : List Entry → Tag → Mode → Option ℕ → Type 0
 IsSpot slots tag mode (Some place) = IsPlaceOf slots tag mode place
 IsSpot slots tag mode None = entry_for (present (opened slots)) tag mode ≡ None
 
--- What a glance at the index shows of an object and mode: that it has no entry, or the place of its slot, which may be empty.
+-- What a glance at the index shows of an object and mode: that it has no entry, or the place of its slot,
+-- which may be empty.
 abbrev pub IsGlance : List Entry → Tag → Mode → Glance → Type 0
 IsGlance slots tag mode Nothing = entry_for (present (opened slots)) tag mode ≡ None
 IsGlance slots tag mode (Place place) = (place < length slots) × (is_of tag mode (entry_at slots place) ≡ true)
 IsGlance slots tag mode Unknown = ⊤
 
--- How many of this many slots stay where an entry at a place goes: all, or all but the last one, which was its slot, or some
--- number of which nothing is asked where no note is left.
+-- How many of this many slots stay where an entry at a place goes: all, or all but the last one, which was
+-- its slot, or some number of which nothing is asked where no note is left.
 abbrev pub IsCut : ℕ → ℕ → ℕ → ℕ → Type 0
 IsCut slots notes place used = (used ≡ slots) ⊎ (((used ≡ place) × (place + 1 ≡ slots)) ⊎ (notes ≡ 0))
 
@@ -155,8 +157,8 @@ back_to place progress = record progress { place = min progress.place place }
 abbrev pub at_start : Progress
 at_start = came_to Commit 0
 
--- What a table keeps: each entry is in the index and counted, their number is known and not above the limit, and no end
--- has anything to do before the place that it has come to.
+-- What a table keeps: each entry is in the index and counted, their number is known and not above the limit,
+-- and no end has anything to do before the place that it has come to.
 pub record IsKept (slots : Slots) (index : Notes) (len max_local : ℕ) (progress : Progress) : Type 0 where
   pub indexed : IsIndexed slots index
   pub counted : (place : ℕ) (entry : Entry) → slot_at slots place ≡ Some entry → IsCounted entry

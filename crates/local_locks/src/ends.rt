@@ -13,8 +13,8 @@ pub enum End {
     Abort,
     /// The close of the session drops the transaction's counts and the session's.
     Close,
-    /// The end of the innermost level of a transaction drops this level's counts and keeps those of the outer levels
-    /// and of the session (`LockReleaseCurrentOwner` in lock.c).
+    /// The end of the innermost level of a transaction drops this level's counts and keeps those of the outer
+    /// levels and of the session (`LockReleaseCurrentOwner` in lock.c).
     Inner,
 }
 
@@ -46,8 +46,8 @@ impl End {
     }
 }
 
-/// The end that took the last step, and the place of the slot that this end has come to: before that slot it has
-/// nothing to do.
+/// The end that took the last step, and the place of the slot that this end has come to: before that slot it
+/// has nothing to do.
 #[derive(Clone, Copy)]
 pub(crate) struct Progress {
     end: End,

@@ -4,8 +4,8 @@ ghost use Rattle.std.specs.Iterator.{YieldsFirst, item_count};
 use crate::Entry;
 use std::marker::Model;
 
-/// An iterator over the entries of a local table, in the order of making. Contracts see the list of those that are
-/// left to give.
+/// An iterator over the entries of a local table, in the order of making. Contracts see the list of those
+/// that are left to give.
 #[derive(Drop)]
 pub struct Entries<'a> {
     slots: &'a [Entry],

@@ -1,6 +1,6 @@
-//! What tells the levels of a transaction apart: beside each slot a list of what the transaction had of its entry
-//! when each inner level began. In a transaction with one level all of these lists are empty, and nobody reads or
-//! writes them.
+//! What tells the levels of a transaction apart: beside each slot a list of what the transaction had of its
+//! entry when each inner level began. In a transaction with one level all of these lists are empty, and
+//! nobody reads or writes them.
 
 ghost use Rattle.std.specs.Prelude.{◌≡◌, ◌≢◌, ◌⊎◌, ◌<◌, ◌≤◌, ◌-◌, ℕ, [], length, take, OnOk};
 ghost use Rattle.local_locks.specs.Owned.{max_count};
@@ -18,8 +18,8 @@ pub const MOST_LEVELS: u8 = 16;
 /// How many levels of a transaction may be within the first one.
 pub(crate) const MOST_INNER: u8 = MOST_LEVELS - 1;
 
-/// The transaction's count of an entry when each inner level began, for the first inner level first, up to the last
-/// one that has counted the entry. Contracts see the list of counts.
+/// The transaction's count of an entry when each inner level began, for the first inner level first, up to
+/// the last one that has counted the entry. Contracts see the list of counts.
 #[derive(Drop)]
 pub(crate) struct OuterCounts {
     len: u8,
@@ -47,8 +47,8 @@ impl OuterCounts {
         }
     }
 
-    /// The transaction's count of the entry when the inner level `level` began, counted from 0. `now` is its count
-    /// now, and the answer where no inner level from `level` on has counted the entry.
+    /// The transaction's count of the entry when the inner level `level` began, counted from 0. `now` is its
+    /// count now, and the answer where no inner level from `level` on has counted the entry.
     pub(crate) fn at(&self, level: u8, now: u16) -> u16
         ensures { result ≡ had_in self.now level now }
     {
@@ -59,8 +59,8 @@ impl OuterCounts {
         }
     }
 
-    /// Adds `now`, the transaction's count of the entry, for each of the first `depth` inner levels that is not yet
-    /// in the list.
+    /// Adds `now`, the transaction's count of the entry, for each of the first `depth` inner levels that is
+    /// not yet in the list.
     pub(crate) fn fill(&mut self, depth: u8, now: u16)
         requires fits { depth ≤ 15 }
         requires within { length self.old ≤ depth }
@@ -81,9 +81,9 @@ impl OuterCounts {
     }
 }
 
-/// How often `owner` can give `entry` back, where `depth` inner levels have begun: for the transaction, how often the
-/// innermost level has `entry`. The entry's list of counts is at `place` in `outer`, which is not read in a
-/// transaction with one level.
+/// How often `owner` can give `entry` back, where `depth` inner levels have begun: for the transaction, how
+/// often the innermost level has `entry`. The entry's list of counts is at `place` in `outer`, which is not
+/// read in a transaction with one level.
 #[inline(always)]
 pub(crate) fn own_count(
     entry: &Entry,
@@ -102,9 +102,9 @@ pub(crate) fn own_count(
     now.saturating_sub(outer[place].at(depth - 1, now))
 }
 
-/// Prepares the list of `outer` at `place` for a change by the innermost of `depth` inner levels: adds `now`, the
-/// transaction's count of the entry, for each inner level that has not counted the entry yet. `touched` becomes
-/// `place` where `touched` was later.
+/// Prepares the list of `outer` at `place` for a change by the innermost of `depth` inner levels: adds `now`,
+/// the transaction's count of the entry, for each inner level that has not counted the entry yet. `touched`
+/// becomes `place` where `touched` was later.
 #[inline(always)]
 pub(crate) fn keep(
     outer: &mut Vec<OuterCounts>,
@@ -129,8 +129,8 @@ pub(crate) fn keep(
     }
 }
 
-/// Does the work of `keep` for `outer`, `touched`, `depth`, `place` and `now` in a level that is not the first: a
-/// call of its own, so that an acquire in the first level remains short.
+/// Does the work of `keep` for `outer`, `touched`, `depth`, `place` and `now` in a level that is not the
+/// first: a call of its own, so that an acquire in the first level remains short.
 #[cold]
 #[inline(never)]
 fn keep_inner(outer: &mut Vec<OuterCounts>, touched: &mut usize, depth: u8, place: usize, now: u16)
@@ -151,8 +151,8 @@ fn keep_inner(outer: &mut Vec<OuterCounts>, touched: &mut usize, depth: u8, plac
     }
 }
 
-/// Empties the lists of `outer` from `from` up to `to`, which is left out, where `depth` inner levels have begun:
-/// with none, all lists are empty already.
+/// Empties the lists of `outer` from `from` up to `to`, which is left out, where `depth` inner levels have
+/// begun: with none, all lists are empty already.
 #[inline(always)]
 pub(crate) fn forget(outer: &mut Vec<OuterCounts>, depth: u8, from: usize, to: usize)
     requires exists { to ≤ length outer.old.items }
@@ -167,8 +167,8 @@ pub(crate) fn forget(outer: &mut Vec<OuterCounts>, depth: u8, from: usize, to: u
     }
 }
 
-/// Forgets the counts of all inner levels but the first `depth` in the lists of `outer` from `from` up to `to`, which
-/// is left out.
+/// Forgets the counts of all inner levels but the first `depth` in the lists of `outer` from `from` up to
+/// `to`, which is left out.
 #[cold]
 #[inline(never)]
 pub(crate) fn cut_all(outer: &mut Vec<OuterCounts>, from: usize, to: usize, depth: u8)
@@ -183,8 +183,8 @@ pub(crate) fn cut_all(outer: &mut Vec<OuterCounts>, from: usize, to: usize, dept
     }
 }
 
-/// Moves the list at `place` of `outer` down to `to`, as the entry is moved that the list belongs to, and leaves an
-/// empty list at `place`.
+/// Moves the list at `place` of `outer` down to `to`, as the entry is moved that the list belongs to, and
+/// leaves an empty list at `place`.
 pub(crate) fn move_row(outer: &mut Vec<OuterCounts>, place: usize, to: usize)
     requires exists { place < length outer.old.items }
     requires down { to ≤ place }
@@ -197,7 +197,8 @@ pub(crate) fn move_row(outer: &mut Vec<OuterCounts>, place: usize, to: usize)
     outer[to] = row;
 }
 
-/// How often the level `level` of the transaction, counted from 1, has `entry`. `row` is the entry's list of counts.
+/// How often the level `level` of the transaction, counted from 1, has `entry`. `row` is the entry's list of
+/// counts.
 pub(crate) fn level_count(entry: &Entry, row: &OuterCounts, level: u8) -> u16
     requires { 1 ≤ level }
     ensures { result ≡ level_count_in row.now level entry.now }
@@ -222,8 +223,9 @@ pub(crate) fn lengthen(outer: &mut Vec<OuterCounts>, number: usize) -> Result<()
     Ok(())
 }
 
-/// Keeps `place` in `hint`, the place where an entry is looked for first. In an inner level (`depth` above 0) `hint`
-/// is not set: it is no place there, so that the usual way in the first level needs no check of the level.
+/// Keeps `place` in `hint`, the place where an entry is looked for first. In an inner level (`depth` above 0)
+/// `hint` is not set: it is no place there, so that the usual way in the first level needs no check of the
+/// level.
 #[inline(always)]
 pub(crate) fn set_hint(hint: &mut usize, depth: u8, place: usize)
     ensures first { depth ≡ 0 → hint.new ≡ place }
@@ -234,8 +236,8 @@ pub(crate) fn set_hint(hint: &mut usize, depth: u8, place: usize)
     }
 }
 
-/// The count below which an owner's count is raised at once, without a look at the levels, where `depth` inner levels
-/// have begun: the largest count in the first level, and 0 in an inner one.
+/// The count below which an owner's count is raised at once, without a look at the levels, where `depth`
+/// inner levels have begun: the largest count in the first level, and 0 in an inner one.
 pub(crate) fn most_at_once(depth: u8) -> u16
     ensures { ((depth ≡ 0) × (result ≡ max_count)) ⊎ ((depth ≢ 0) × (result ≡ 0)) }
 {

@@ -6,10 +6,10 @@ use crate::Entry;
 use modes_core::{Mode, Tag};
 use place_index::PlaceIndex;
 
-/// The number by which an object and mode in 64 bits are multiplied for their hash. Its lower half is 2^32 divided by
-/// the golden ratio, so that the hashes of relations numbered in equal steps lie apart as evenly as can be. Its upper
-/// half is 2^32 times the square root of two less one, so that the hashes of modes lie apart, too, and away from
-/// those of relations.
+/// The number by which an object and mode in 64 bits are multiplied for their hash. Its lower half is 2^32
+/// divided by the golden ratio, so that the hashes of relations numbered in equal steps lie apart as evenly
+/// as can be. Its upper half is 2^32 times the square root of two less one, so that the hashes of modes lie
+/// apart, too, and away from those of relations.
 const MULTIPLIER: u64 = 0x6A09_E667_9E37_79B9;
 
 /// What the first place that an index has for an object and mode shows of them.
@@ -22,8 +22,8 @@ pub(crate) enum Glance {
     Unknown,
 }
 
-/// `database` in the lower half and `number` in the upper half of one number. A tag has them in this order, so that
-/// both are read and compared at once.
+/// `database` in the lower half and `number` in the upper half of one number. A tag has them in this order,
+/// so that both are read and compared at once.
 #[inline(always)]
 pub(crate) fn pair_bits(database: u32, number: u32) -> u64
     ensures { result ≡ pair_bits database number }
@@ -74,8 +74,8 @@ fn object_bits(tag: &Tag) -> u64
     }
 }
 
-/// The hash of `object`, an object in 64 bits, and of `mode`: the upper half of a product, whose highest bits depend
-/// on all bits of both.
+/// The hash of `object`, an object in 64 bits, and of `mode`: the upper half of a product, whose highest bits
+/// depend on all bits of both.
 #[inline(always)]
 pub(crate) fn hash_of(object: u64, mode: Mode) -> u32
     ensures { result ≡ hash_of object mode }
@@ -92,8 +92,8 @@ pub(crate) fn key_hash(tag: &Tag, mode: Mode) -> u32
     hash_of(object_bits(tag), mode)
 }
 
-/// What the first place that `index` has for `tag` and `mode` shows: that they have no entry, or the place of their
-/// slot in `slots`, which may be empty.
+/// What the first place that `index` has for `tag` and `mode` shows: that they have no entry, or the place of
+/// their slot in `slots`, which may be empty.
 #[inline(always)]
 pub(crate) fn glance_at(slots: &[Entry], index: &PlaceIndex, tag: &Tag, mode: Mode) -> Glance
     requires { IsIndexed (opened slots.now) index.now }
@@ -125,8 +125,8 @@ pub(crate) fn look_up(slots: &[Entry], index: &PlaceIndex, tag: &Tag, mode: Mode
     }
 }
 
-/// The place in `slots` of the entry of the relation `relation` of `database` and of `mode`, looked for through
-/// `index`: most objects are relations.
+/// The place in `slots` of the entry of the relation `relation` of `database` and of `mode`, looked for
+/// through `index`: most objects are relations.
 #[inline(always)]
 fn look_up_relation(
     slots: &[Entry],
@@ -152,8 +152,8 @@ fn look_up_relation(
     }
 }
 
-/// The place in `slots` of the entry of any `tag` and `mode`, looked for through `index`: a call of its own, so that
-/// a look for a relation remains short.
+/// The place in `slots` of the entry of any `tag` and `mode`, looked for through `index`: a call of its own,
+/// so that a look for a relation remains short.
 #[inline(never)]
 fn look_up_object(slots: &[Entry], index: &PlaceIndex, tag: &Tag, mode: Mode) -> Option<usize>
     requires { IsIndexed (opened slots.now) index.now }
@@ -188,8 +188,8 @@ pub(crate) fn look(
     look_elsewhere(slots, index, tag, mode)
 }
 
-/// The place in `slots` of the entry of `tag` and `mode`, looked for through `index`: a call of its own, so that
-/// `look` remains short where it finds the entry without `index`.
+/// The place in `slots` of the entry of `tag` and `mode`, looked for through `index`: a call of its own, so
+/// that `look` remains short where it finds the entry without `index`.
 #[inline(never)]
 fn look_elsewhere(slots: &[Entry], index: &PlaceIndex, tag: &Tag, mode: Mode) -> Option<usize>
     requires { IsIndexed (opened slots.now) index.now }

@@ -3,7 +3,8 @@ ghost use Rattle.std.specs.Prelude.{◌≡◌, ◌≢◌, ◌↔◌, ◌+◌, �
 use crate::looks::is_same_pair;
 use modes_core::{Mode, Owner, Tag};
 
-/// An object and a lock mode in which the session has it, and how often for each owner (`LOCALLOCK` in lock.h).
+/// An object and a lock mode in which the session has it, and how often for each owner (`LOCALLOCK` in
+/// lock.h).
 #[derive(Clone, Copy, PartialEq, Eq)]
 pub struct Entry {
     pub tag: Tag,
@@ -81,8 +82,8 @@ impl Entry {
         }
     }
 
-    /// Whether the entry is of the relation `relation` of `database` and of `mode`. `database` and `relation` are
-    /// compared as one number.
+    /// Whether the entry is of the relation `relation` of `database` and of `mode`. `database` and `relation`
+    /// are compared as one number.
     #[inline(always)]
     pub(crate) fn is_of_relation(&self, database: u32, relation: u32, mode: Mode) -> bool
         ensures { result ≡ is_of (Relation database relation) mode self.now }

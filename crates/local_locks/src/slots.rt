@@ -40,8 +40,9 @@ pub(crate) fn lower(slots: &mut Vec<Entry>, place: usize, owner: Owner)
     slots[place].lower(owner);
 }
 
-/// Raises the count of `owner` in the entry at `place` of `slots` where the count is above 0 and below `most`, and
-/// answers whether the count was raised. There is code for each owner, so that `owner` is looked at only once.
+/// Raises the count of `owner` in the entry at `place` of `slots` where the count is above 0 and below
+/// `most`, and answers whether the count was raised. There is code for each owner, so that `owner` is looked
+/// at only once.
 #[inline(always)]
 pub(crate) fn raise_held(slots: &mut Vec<Entry>, place: usize, owner: Owner, most: u16) -> bool
     requires { place < length slots.old.items }
@@ -60,8 +61,8 @@ pub(crate) fn raise_held(slots: &mut Vec<Entry>, place: usize, owner: Owner, mos
     }
 }
 
-/// Does the work of `raise_held` at `place` of `slots`, up to `most`, for an `owner` that the caller knows as it is
-/// compiled.
+/// Does the work of `raise_held` at `place` of `slots`, up to `most`, for an `owner` that the caller knows as
+/// it is compiled.
 #[inline(always)]
 fn raise_if_held(slots: &mut Vec<Entry>, place: usize, owner: Owner, most: u16) -> bool
     requires { place < length slots.old.items }
@@ -81,8 +82,8 @@ fn raise_if_held(slots: &mut Vec<Entry>, place: usize, owner: Owner, most: u16) 
     true
 }
 
-/// Lowers the count of `owner` in the entry at `place` of `slots` where the count is above 1, and answers whether the
-/// count was lowered. There is code for each owner, so that `owner` is looked at only once.
+/// Lowers the count of `owner` in the entry at `place` of `slots` where the count is above 1, and answers
+/// whether the count was lowered. There is code for each owner, so that `owner` is looked at only once.
 #[inline(always)]
 pub(crate) fn lower_held(slots: &mut Vec<Entry>, place: usize, owner: Owner) -> bool
     requires { place < length slots.old.items }
@@ -100,7 +101,8 @@ pub(crate) fn lower_held(slots: &mut Vec<Entry>, place: usize, owner: Owner) -> 
     }
 }
 
-/// Does the work of `lower_held` at `place` of `slots` for an `owner` that the caller knows as it is compiled.
+/// Does the work of `lower_held` at `place` of `slots` for an `owner` that the caller knows as it is
+/// compiled.
 #[inline(always)]
 fn lower_if_held(slots: &mut Vec<Entry>, place: usize, owner: Owner) -> bool
     requires { place < length slots.old.items }
@@ -119,7 +121,8 @@ fn lower_if_held(slots: &mut Vec<Entry>, place: usize, owner: Owner) -> bool
     true
 }
 
-/// Adds `entry` in a new last slot of `slots`, for which there is room, and notes its place in `index` under `hash`.
+/// Adds `entry` in a new last slot of `slots`, for which there is room, and notes its place in `index` under
+/// `hash`.
 #[inline(always)]
 pub(crate) fn push_entry(slots: &mut Vec<Entry>, index: &mut PlaceIndex, hash: u32, entry: Entry)
     requires indexed { IsIndexed (opened slots.old.items) index.old }
@@ -140,8 +143,8 @@ pub(crate) fn push_entry(slots: &mut Vec<Entry>, index: &mut PlaceIndex, hash: u
     index.insert_last(hash, place as u32);
 }
 
-/// How many of `slots` slots are kept where the entry at `place` goes and `notes` notes are left in the index: none
-/// where no note is left, otherwise all but the last slot if that is the one at `place`, or all.
+/// How many of `slots` slots are kept where the entry at `place` goes and `notes` notes are left in the
+/// index: none where no note is left, otherwise all but the last slot if that is the one at `place`, or all.
 #[inline(always)]
 fn slots_left(slots: usize, notes: usize, place: usize) -> usize
     requires { place < slots }
@@ -156,8 +159,9 @@ fn slots_left(slots: usize, notes: usize, place: usize) -> usize
     slots
 }
 
-/// Takes the entry at `place` out of its slot in `slots` and `place` out of `index`. The slot itself goes if it is
-/// the last one, and all slots go with the last note of `index`. `hash` is that of the entry's object and mode.
+/// Takes the entry at `place` out of its slot in `slots` and `place` out of `index`. The slot itself goes if
+/// it is the last one, and all slots go with the last note of `index`. `hash` is that of the entry's object
+/// and mode.
 #[inline(never)]
 pub(crate) fn take_out(slots: &mut Vec<Entry>, index: &mut PlaceIndex, place: usize, hash: u32)
     requires indexed { IsIndexed (opened slots.old.items) index.old }
@@ -177,8 +181,9 @@ pub(crate) fn take_out(slots: &mut Vec<Entry>, index: &mut PlaceIndex, place: us
     slots.truncate(used);
 }
 
-/// Takes the last slot, at `place`, with its entry out of `slots` and `index`, with neither a loop nor a call. Empty
-/// slots before it are kept until the entries are moved together, or until `take_out` takes the last entry.
+/// Takes the last slot, at `place`, with its entry out of `slots` and `index`, with neither a loop nor a
+/// call. Empty slots before it are kept until the entries are moved together, or until `take_out` takes the
+/// last entry.
 #[inline(always)]
 pub(crate) fn take_last(slots: &mut Vec<Entry>, index: &mut PlaceIndex, place: usize)
     requires indexed { IsIndexed (opened slots.old.items) index.old }
@@ -197,10 +202,10 @@ pub(crate) fn take_last(slots: &mut Vec<Entry>, index: &mut PlaceIndex, place: u
     index.remove_last(place as u32);
 }
 
-/// Takes the entry at `place`, which an end takes away, out of its slot in `slots`, where there are `len` entries.
-/// `index` keeps `place` where it has places of empty slots already, or where the end is still to go through half of
-/// the slots and `index` is not much larger than the number of its notes. `tidy` takes such places out all together,
-/// in time in proportion to the slots that the end goes through.
+/// Takes the entry at `place`, which an end takes away, out of its slot in `slots`, where there are `len`
+/// entries. `index` keeps `place` where it has places of empty slots already, or where the end is still to go
+/// through half of the slots and `index` is not much larger than the number of its notes. `tidy` takes such
+/// places out all together, in time in proportion to the slots that the end goes through.
 #[inline(always)]
 pub(crate) fn take_ended(slots: &mut Vec<Entry>, index: &mut PlaceIndex, len: usize, place: usize)
     requires indexed { IsIndexed (opened slots.old.items) index.old }
@@ -223,8 +228,8 @@ pub(crate) fn take_ended(slots: &mut Vec<Entry>, index: &mut PlaceIndex, len: us
     take_out(slots, index, place, hash);
 }
 
-/// Goes on with `end` from the slot at `from` of `slots`: leaves each entry the counts that outlive `end`, up to the
-/// first entry of which no count does, and answers the place of that entry, or the number of slots.
+/// Goes on with `end` from the slot at `from` of `slots`: leaves each entry the counts that outlive `end`, up
+/// to the first entry of which no count does, and answers the place of that entry, or the number of slots.
 pub(crate) fn settle(slots: &mut [Entry], end: End, from: usize) -> usize
     requires within { from ≤ length slots.old }
     requires past { IsPast end (opened slots.old) from }
@@ -250,9 +255,10 @@ pub(crate) fn settle(slots: &mut [Entry], end: End, from: usize) -> usize
     slots.len()
 }
 
-/// Goes on with the end of the innermost of `depth` inner levels from the slot at `from` of `slots`: takes the
-/// level's count, by the entry's list in `outer`, from each entry, up to the first entry that has no other count, and
-/// answers the place of that entry, or the number of slots. Before the answered place the end has nothing left to do.
+/// Goes on with the end of the innermost of `depth` inner levels from the slot at `from` of `slots`: takes
+/// the level's count, by the entry's list in `outer`, from each entry, up to the first entry that has no
+/// other count, and answers the place of that entry, or the number of slots. Before the answered place the
+/// end has nothing left to do.
 pub(crate) fn settle_inner(
     slots: &mut Vec<Entry>,
     outer: &mut Vec<OuterCounts>,
@@ -305,7 +311,8 @@ fn move_down(slots: &mut Vec<Entry>, place: usize, to: usize, entry: Entry)
     slots[to] = entry;
 }
 
-/// Moves the entries of `slots` together, so that no slot is empty, and each entry's list in `outer` with the entry.
+/// Moves the entries of `slots` together, so that no slot is empty, and each entry's list in `outer` with the
+/// entry.
 fn gather(slots: &mut Vec<Entry>, outer: &mut Vec<OuterCounts>)
     requires few { length slots.old.items ≤ no_place }
     requires lists { length slots.old.items ≤ length outer.old.items }
@@ -345,8 +352,8 @@ fn note_all(slots: &[Entry], index: &mut PlaceIndex)
     }
 }
 
-/// Moves the entries of `slots` down over the empty slots, so that no slot is empty, and their lists in `outer` with
-/// them. `index` has the entries' new places then, and no others.
+/// Moves the entries of `slots` down over the empty slots, so that no slot is empty, and their lists in
+/// `outer` with them. `index` has the entries' new places then, and no others.
 #[cold]
 #[inline(never)]
 pub(crate) fn compact(slots: &mut Vec<Entry>, index: &mut PlaceIndex, outer: &mut Vec<OuterCounts>)
@@ -368,9 +375,9 @@ pub(crate) fn compact(slots: &mut Vec<Entry>, index: &mut PlaceIndex, outer: &mu
     note_all(slots.as_slice(), index);
 }
 
-/// Takes the places of empty slots out of `index` that an end may have left beside the places of the `len` entries:
-/// if there are some, the entries of `slots` are moved down over the empty slots, with their lists in `outer`, and no
-/// slot is empty. Otherwise nothing is done.
+/// Takes the places of empty slots out of `index` that an end may have left beside the places of the `len`
+/// entries: if there are some, the entries of `slots` are moved down over the empty slots, with their lists
+/// in `outer`, and no slot is empty. Otherwise nothing is done.
 #[inline(always)]
 pub(crate) fn tidy(
     slots: &mut Vec<Entry>,

@@ -19,8 +19,8 @@ use place_index::PlaceIndex;
 use std::alloc::Global;
 use std::marker::Model;
 
-/// For how many slots a local table has room at first, as `LockMethodLocalHash` in lock.c has. With fewer the tables
-/// of two sessions could share a cache line, which both sessions would write in every call.
+/// For how many slots a local table has room at first, as `LockMethodLocalHash` in lock.c has. With fewer the
+/// tables of two sessions could share a cache line, which both sessions would write in every call.
 const FIRST_SLOTS: usize = 16;
 
 /// How many entries a local table may have at most.
@@ -30,9 +30,9 @@ pub const MOST_LOCAL: u32 = 65_536;
 const MAX_SLOTS: usize = u32::MAX as usize - 1;
 
 /// The local lock table of a session: what the session holds, how often and for which owner (the hash table
-/// `LockMethodLocalHash` in lock.c). Contracts see the entries in the order of making, what the outer levels of the
-/// transaction have, how many more entries can be made with no growth, for how many there are slots, and how many
-/// there may be.
+/// `LockMethodLocalHash` in lock.c). Contracts see the entries in the order of making, what the outer levels
+/// of the transaction have, how many more entries can be made with no growth, for how many there are slots,
+/// and how many there may be.
 #[derive(Drop)]
 pub struct LocalTable {
     slots: Vec<Entry>,
@@ -75,8 +75,8 @@ impl Model for LocalTable {
 }
 
 impl LocalTable {
-    /// An empty local table with room for its first entries, which takes `max_local` entries at most and grows by
-    /// `alloc`. Refused only where memory ran out.
+    /// An empty local table with room for its first entries, which takes `max_local` entries at most and
+    /// grows by `alloc`. Refused only where memory ran out.
     pub fn new(alloc: Global, max_local: u32) -> Result<Self, Refusal>
         requires from { 1 ≤ max_local }
         requires to { max_local ≤ 65536 }
@@ -123,8 +123,8 @@ impl LocalTable {
         }
     }
 
-    /// How often `owner` has `tag` in `mode` and can give it back: for the transaction, how often its innermost level
-    /// has it.
+    /// How often `owner` has `tag` in `mode` and can give it back: for the transaction, how often its
+    /// innermost level has it.
     pub fn owner_count(&self, tag: Tag, mode: Mode, owner: Owner) -> u16
         ensures count { result ≡ own_count_of self.now tag mode owner }
         ensures well_owned { IsWellOwned self.now }
@@ -143,8 +143,8 @@ impl LocalTable {
         Entries::of(&self.slots)
     }
 
-    /// The innermost level of the transaction: 1, and one more for each level that was begun within another and has
-    /// not ended.
+    /// The innermost level of the transaction: 1, and one more for each level that was begun within another
+    /// and has not ended.
     pub fn level(&self) -> u8
         ensures level { result ≡ level_of self.now }
         ensures well_owned { IsWellOwned self.now }
@@ -165,8 +165,8 @@ impl LocalTable {
         }
     }
 
-    /// Begins a level of the transaction within the innermost one and answers its number (`PushTransaction` in
-    /// xact.c). The new level has nothing yet. This takes no memory, and looks at no entry.
+    /// Begins a level of the transaction within the innermost one and answers its number (`PushTransaction`
+    /// in xact.c). The new level has nothing yet. This takes no memory, and looks at no entry.
     pub fn begin_nested(&mut self) -> Result<u8, Refusal>
         ensures too_deep { IsErrOf result Refusal.TooDeep ↔ (level_of self.old ≡ max_level) }
         ensures no_other { IsOkUnless result Refusal.TooDeep }
@@ -190,8 +190,9 @@ impl LocalTable {
         Ok(self.depth + 1)
     }
 
-    /// Ends the innermost level of the transaction, gives what this level has to the level in which it was begun, and
-    /// answers the number of that one (`LockReassignCurrentOwner` in lock.c). This takes no memory.
+    /// Ends the innermost level of the transaction, gives what this level has to the level in which it was
+    /// begun, and answers the number of that one (`LockReassignCurrentOwner` in lock.c). This takes no
+    /// memory.
     pub fn hand_up(&mut self) -> Result<u8, Refusal>
         ensures no_nested { IsErrOf result Refusal.NoNested ↔ (level_of self.old ≡ 1) }
         ensures no_other { IsOkUnless result Refusal.NoNested }

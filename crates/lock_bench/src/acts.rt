@@ -152,8 +152,8 @@ impl Act {
         }
     }
 
-    /// What is timed beside the act: the empty loop that is taken off, its bare atomic steps, and the same work on a map
-    /// in a mutex.
+    /// What is timed beside the act: the empty loop that is taken off, its bare atomic steps, and the same
+    /// work on a map in a mutex.
     pub fn compared(self) -> [Plain; 3] {
         let floor = match self {
             Act::Weak | Act::Ten | Act::Hundred | Act::AllSlots => Plain::Floor(Floor::Slot),

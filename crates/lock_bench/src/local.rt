@@ -123,7 +123,8 @@ impl LocalBed {
         }
     }
 
-    /// Does what `local` says with `keys` for `owner`, `laps` times. A step counts for each key, while all is done.
+    /// Does what `local` says with `keys` for `owner`, `laps` times. A step counts for each key, while all is
+    /// done.
     pub fn make<R: CpuClock>(
         &mut self,
         rt: &R,
@@ -285,8 +286,8 @@ fn pairs(table: &mut LocalTable, keys: &[Key], owner: Owner) -> bool {
     true
 }
 
-/// Acquires all `keys` for `owner` in a level of `table` that is handed up, and releases them. Answers whether all was
-/// done.
+/// Acquires all `keys` for `owner` in a level of `table` that is handed up, and releases them. Answers
+/// whether all was done.
 fn hand_up(table: &mut LocalTable, keys: &[Key], owner: Owner) -> bool {
     if table.begin_nested().is_err() || !acquire_all(table, keys, owner) {
         return false;
@@ -294,7 +295,8 @@ fn hand_up(table: &mut LocalTable, keys: &[Key], owner: Owner) -> bool {
     table.hand_up().is_ok() && release_all(table, keys, owner)
 }
 
-/// Acquires all `keys` for `owner` in a level of `table` that is dropped, entry by entry. Answers whether all was done.
+/// Acquires all `keys` for `owner` in a level of `table` that is dropped, entry by entry. Answers whether all
+/// was done.
 fn drop_level(table: &mut LocalTable, keys: &[Key], owner: Owner) -> bool {
     if table.begin_nested().is_err() || !acquire_all(table, keys, owner) {
         return false;
@@ -318,8 +320,8 @@ fn commit(table: &mut LocalTable) -> u64 {
     u64::MAX
 }
 
-/// Whether each of `keys` is found in `map`. With each look-up goes a call for `owner` that does nothing, since two such
-/// calls are taken off.
+/// Whether each of `keys` is found in `map`. With each look-up goes a call for `owner` that does nothing,
+/// since two such calls are taken off.
 fn look_up_all(map: &KeyMap, keys: &[Key], owner: Owner) -> bool {
     let mut found = 0u64;
     let mut passed = 0u64;

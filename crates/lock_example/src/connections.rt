@@ -24,9 +24,9 @@ impl<B: Board<Part>> Connection<B> {
         }
     }
 
-    /// Reads the accounts with the connection. Its session and its count are lent to the statement. The check covers no
-    /// such loan out of a `&mut Connection`, so the connection goes in by value, is taken apart, and is put together
-    /// again.
+    /// Reads the accounts with the connection. Its session and its count are lent to the statement. The check
+    /// covers no such loan out of a `&mut Connection`, so the connection goes in by value, is taken apart,
+    /// and is put together again.
     pub fn read<R: Wait>(self, rt: &R) -> (Self, Result<(), Refusal>)
         ensures { KeepsSeat B.seat self.session result.0.session }
     {

@@ -1,5 +1,5 @@
-//! A day of the bank, with its lock manager from the beginning to the end: shifts of work, connections that come and
-//! go, and a shut-down in the middle of a busy shift.
+//! A day of the bank, with its lock manager from the beginning to the end: shifts of work, connections that
+//! come and go, and a shut-down in the middle of a busy shift.
 
 ghost use Rattle.std.specs.Prelude.{◌≡◌, ◌≤◌, ◌+◌, [], length};
 ghost use Rattle.lock_manager.specs.Crews.{AreOf, SeatsAre};
@@ -53,8 +53,8 @@ pub fn live_through<R: Threads + Wait + Clock + Sync>(
     Ok(report)
 }
 
-/// Plays the day at `desk`. This function alone names the board of the shared table: all that it calls is over any
-/// board.
+/// Plays the day at `desk`. This function alone names the board of the shared table: all that it calls is
+/// over any board.
 fn at_the_desk<R: Threads + Wait + Clock + Sync>(
     rt: &R,
     alloc: Global,
@@ -106,7 +106,8 @@ fn with_pool<B: Board<Part> + Send, D: Desk<OwnSession<Part, B>>, R: Threads + W
     })
 }
 
-/// Works all shifts of `bank` but the last one. The staff of each shift has sessions from `pool`, and gives them back.
+/// Works all shifts of `bank` but the last one. The staff of each shift has sessions from `pool`, and gives
+/// them back.
 fn work_shifts<
     B: Board<Part> + Send,
     D: Desk<OwnSession<Part, B>>,

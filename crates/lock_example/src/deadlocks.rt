@@ -8,8 +8,8 @@ use std::sync::Wait;
 /// The length of a list that has a place for each session number.
 const NUMBERS: usize = USUAL_SESSIONS as usize;
 
-/// Asks, in the name of `session`, one session of a circle of waits to cancel, if there is such a circle. Without memory for the
-/// waits nobody is asked.
+/// Asks, in the name of `session`, one session of a circle of waits to cancel, if there is such a circle.
+/// Without memory for the waits nobody is asked.
 pub fn break_circle<B: Board<Part>, R: Wait>(rt: &R, session: &mut OwnSession<Part, B>)
     ensures seat { KeepsSeat B.seat session.old session.new }
 {
@@ -21,7 +21,8 @@ pub fn break_circle<B: Board<Part>, R: Wait>(rt: &R, session: &mut OwnSession<Pa
     }
 }
 
-/// The session that waits in a circle of `waits`, so in the end for itself. Of several the one with the highest number.
+/// The session that waits in a circle of `waits`, so in the end for itself. Of several the one with the
+/// highest number.
 fn victim_of(waits: &Vec<Blocked>) -> Option<SessionId> {
     let mut behind = [[false; NUMBERS]; NUMBERS];
     'waits: for wait in waits {

@@ -11,9 +11,9 @@ use std::{io, thread};
 /// How many milliseconds a wait with a limit of time sleeps between two looks.
 const PAUSE: u64 = 1;
 
-/// Takes `mode` on `tag` for the transaction of `session`, and waits for it until `timeout` is over. Then the wait is
-/// given up, and the answer is `Cancelled`. Where the grant came first after all, the session has the mode, and the
-/// answer says so.
+/// Takes `mode` on `tag` for the transaction of `session`, and waits for it until `timeout` is over. Then the
+/// wait is given up, and the answer is `Cancelled`. Where the grant came first after all, the session has the
+/// mode, and the answer says so.
 pub fn take_in_time<B: Board<Part>, R: Wait + Clock>(
     rt: &R,
     session: &mut OwnSession<Part, B>,
@@ -30,8 +30,8 @@ pub fn take_in_time<B: Board<Part>, R: Wait + Clock>(
     })
 }
 
-/// Whether less than `timeout` has gone by since `begun`, by the clock of `rt`. Where the clock failed, no time is
-/// left.
+/// Whether less than `timeout` has gone by since `begun`, by the clock of `rt`. Where the clock failed, no
+/// time is left.
 fn is_within<R: Clock>(rt: &R, begun: &io::Result<Instant>, timeout: Duration) -> bool {
     let Ok(begun) = begun else {
         return false;

@@ -21,8 +21,8 @@ const PAUSE: u64 = 5;
 /// The length of a list that has a place for each session number.
 const NUMBERS: usize = USUAL_SESSIONS as usize;
 
-/// Looks again and again at who waits, and logs each wait once, until `is_over`. `monitor` is a session of the
-/// monitor's own.
+/// Looks again and again at who waits, and logs each wait once, until `is_over`. `monitor` is a session of
+/// the monitor's own.
 pub fn keep_logging<B: Board<Part>, R: Wait + Clock + Print>(
     rt: &R,
     monitor: &mut OwnSession<Part, B>,
@@ -41,8 +41,8 @@ pub fn keep_logging<B: Board<Part>, R: Wait + Clock + Print>(
     Ok(())
 }
 
-/// Logs by `monitor` each session that waits and isn't among `logged`, the ones that waited at the look before. Puts
-/// those that wait now into `logged`.
+/// Logs by `monitor` each session that waits and isn't among `logged`, the ones that waited at the look
+/// before. Puts those that wait now into `logged`.
 fn log_waits<B: Board<Part>, R: Wait + Print>(
     rt: &R,
     monitor: &mut OwnSession<Part, B>,
@@ -66,8 +66,8 @@ fn log_waits<B: Board<Part>, R: Wait + Print>(
     Ok(())
 }
 
-/// Logs by `monitor` the wait of `row`: who is in its way, and the queue in which it is. Nobody is in its way where the
-/// wait has ended since the listing.
+/// Logs by `monitor` the wait of `row`: who is in its way, and the queue in which it is. Nobody is in its way
+/// where the wait has ended since the listing.
 fn log_wait<B: Board<Part>, R: Wait + Print>(
     rt: &R,
     monitor: &mut OwnSession<Part, B>,
@@ -105,7 +105,8 @@ fn print_wait<R: Print>(
     println!(rt;)
 }
 
-/// The modes that are asked for after the reader has the accounts, in their order: an ALTER, a read and a write.
+/// The modes that are asked for after the reader has the accounts, in their order: an ALTER, a read and a
+/// write.
 static COMING: [Mode; 3] = [Mode::AccessExclusive, Mode::AccessShare, Mode::RowExclusive];
 
 /// Has sessions wait for one that reads, and a monitor log the waits.
@@ -123,8 +124,8 @@ pub fn show<R: Threads + Wait + Clock + Print + Sync>(rt: &R, alloc: Global) -> 
     logged
 }
 
-/// Has sessions of `desk` wait for one that reads, and a monitor log the waits. This function names the board of the
-/// shared table.
+/// Has sessions of `desk` wait for one that reads, and a monitor log the waits. This function names the board
+/// of the shared table.
 fn at_the_desk<R: Threads + Wait + Clock + Print + Sync>(
     rt: &R,
     desk: &mut ManagerDesk<'_>,
@@ -169,8 +170,8 @@ fn watch<
     logged
 }
 
-/// Has a session of `desk` for each of `modes` ask for the accounts, one after the other, and wait. Once all wait,
-/// `monitor` looks.
+/// Has a session of `desk` for each of `modes` ask for the accounts, one after the other, and wait. Once all
+/// wait, `monitor` looks.
 fn come<
     B: Board<Part> + Send,
     D: Desk<OwnSession<Part, B>>,
@@ -227,8 +228,8 @@ fn log_beside<B: Board<Part> + Send, R: Threads + Wait + Clock + Print + Sync>(
     logged
 }
 
-/// Goes on as a server does while its monitor looks, for as long as some of its looks take, and sets `is_over`, which
-/// ends the monitor.
+/// Goes on as a server does while its monitor looks, for as long as some of its looks take, and sets
+/// `is_over`, which ends the monitor.
 fn go_on<R: Wait + Clock>(rt: &R, is_over: &AtomicBool) {
     thread::sleep(rt, Duration::from_millis(4 * PAUSE));
     is_over.store(true, Ordering::SeqCst);

@@ -15,11 +15,12 @@ pub struct Report {
     /// What all accounts had together when the bank opened. `sum` is what they had at the end.
     pub opened_with: u64,
     pub sum: u64,
-    /// How the connection was refused that came when all sessions were lent. `handed_on` is the session that it had at
-    /// last.
+    /// How the connection was refused that came when all sessions were lent. `handed_on` is the session that
+    /// it had at last.
     pub turned_away: Option<Refusal>,
     pub handed_on: SessionId,
-    /// The session of the last of the connections that came one after another, with the life that the session had.
+    /// The session of the last of the connections that came one after another, with the life that the session
+    /// had.
     pub served: SessionLife,
     /// How many threads still worked when the bank shut down, and have stopped since.
     pub stopped: u64,

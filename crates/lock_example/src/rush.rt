@@ -15,8 +15,8 @@ use std::sync::Wait;
 /// How many connections come one after another.
 pub const CONNECTIONS: u32 = 1_000;
 
-/// Has many connections come to `desk` one after another, over `pool`, and answers the session of the last one, with
-/// its life.
+/// Has many connections come to `desk` one after another, over `pool`, and answers the session of the last
+/// one, with its life.
 pub fn come_and_go<B: Board<Part>, D: Desk<OwnSession<Part, B>>, R: Wait>(
     rt: &R,
     desk: &mut D,
@@ -35,8 +35,8 @@ pub fn come_and_go<B: Board<Part>, D: Desk<OwnSession<Part, B>>, R: Wait>(
     connect(rt, desk, pool)
 }
 
-/// Has more connections come to `desk`, over `pool`, than there are sessions, one after another. Answers how the one
-/// too many is refused, and which session it has once another connection has ended.
+/// Has more connections come to `desk`, over `pool`, than there are sessions, one after another. Answers how
+/// the one too many is refused, and which session it has once another connection has ended.
 pub fn rush<B: Board<Part>, D: Desk<OwnSession<Part, B>>, R: Wait>(
     rt: &R,
     alloc: Global,
@@ -62,9 +62,9 @@ pub fn rush<B: Board<Part>, D: Desk<OwnSession<Part, B>>, R: Wait>(
     Ok((refused, handed_on?.number))
 }
 
-/// Has a connection come to `desk`, read with a session of `pool` and go, and answers the number of the session with
-/// the life that it had. What the connection held is released as the session goes back to `pool`. A connection that
-/// comes when all sessions are lent is turned away.
+/// Has a connection come to `desk`, read with a session of `pool` and go, and answers the number of the
+/// session with the life that it had. What the connection held is released as the session goes back to
+/// `pool`. A connection that comes when all sessions are lent is turned away.
 fn connect<B: Board<Part>, D: Desk<OwnSession<Part, B>>, R: Wait>(
     rt: &R,
     desk: &mut D,

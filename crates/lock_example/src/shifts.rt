@@ -1,4 +1,5 @@
-//! The shifts of a day: the staff of each has sessions from the pool, works in threads of its own, and gives them back.
+//! The shifts of a day: the staff of each has sessions from the pool, works in threads of its own, and gives
+//! them back.
 
 ghost use Rattle.std.specs.Prelude.{◌≡◌, ◌≤◌, ◌+◌, length, None, IfSome, IsSome};
 ghost use Rattle.lock_manager.specs.Crews.{AreOf, IsOf, KeepManagers, KeepsSeat, SeatsAre};
@@ -16,7 +17,8 @@ use std::time::Clock;
 /// How many threads of a shift make transfers.
 const TELLERS: u32 = 4;
 
-/// How many sessions a shift works with: one for each teller, one for the watchdog, and one for the migration.
+/// How many sessions a shift works with: one for each teller, one for the watchdog, and one for the
+/// migration.
 const STAFF: u32 = TELLERS + 2;
 
 /// What there is to do in a shift.
@@ -26,13 +28,13 @@ pub struct Shift {
     pub transfers: u32,
     /// How many times the migration alters the table.
     pub alterations: u32,
-    /// After how many looks of the watchdog the bank shuts down, even while threads of the shift work. `None` where it
-    /// doesn't shut down in the shift.
+    /// After how many looks of the watchdog the bank shuts down, even while threads of the shift work. `None`
+    /// where it doesn't shut down in the shift.
     pub closes_after: Option<u32>,
 }
 
-/// Takes `number` sessions from `pool` at `desk`, and puts them at the end of `staff`. Where not all could be had, the
-/// ones that could are in `staff` all the same.
+/// Takes `number` sessions from `pool` at `desk`, and puts them at the end of `staff`. Where not all could be
+/// had, the ones that could are in `staff` all the same.
 pub fn hire<B: Board<Part>, D: Desk<OwnSession<Part, B>>, R: Wait>(
     rt: &R,
     desk: &mut D,
@@ -105,8 +107,8 @@ pub fn work<B: Board<Part> + Send, D: Desk<OwnSession<Part, B>>, R: Threads + Wa
     hired
 }
 
-/// Has `staff` do the work of `shift`, however many sessions were hired. One session is the migration's, and goes back
-/// to `pool`.
+/// Has `staff` do the work of `shift`, however many sessions were hired. One session is the migration's, and
+/// goes back to `pool`.
 fn work_if_any<
     B: Board<Part> + Send,
     D: Desk<OwnSession<Part, B>>,
@@ -137,8 +139,8 @@ fn work_if_any<
     }
 }
 
-/// Has the tellers of `staff` make transfers and its last one watch them, while the migration alters the table with
-/// `session`, which comes back. All are of the manager that the desk has.
+/// Has the tellers of `staff` make transfers and its last one watch them, while the migration alters the
+/// table with `session`, which comes back. All are of the manager that the desk has.
 fn work_beside<
     B: Board<Part> + Send,
     D: Desk<OwnSession<Part, B>>,
@@ -242,9 +244,9 @@ fn play_part<B: Board<Part>, R: Wait + Clock>(
     }
 }
 
-/// Plays the part of the migration. A request that may be given up takes its session by value, and no closure has
-/// one: so `migration` is lent as an `Option`, out of which the thread takes it, and comes back as what the thread
-/// answers.
+/// Plays the part of the migration. A request that may be given up takes its session by value, and no closure
+/// has one: so `migration` is lent as an `Option`, out of which the thread takes it, and comes back as what
+/// the thread answers.
 fn migrate_lent<B: Board<Part>, R: Wait + Clock>(
     rt: &R,
     bank: &Bank,

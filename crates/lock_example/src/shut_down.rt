@@ -12,9 +12,10 @@ use std::time::{Clock, Duration};
 /// How many milliseconds a shut-down sleeps between two times that it asks all who wait to cancel.
 const PAUSE: u64 = 1;
 
-/// Shuts down as a server does, with `session`: by `watch` nobody begins another transaction from then on, and all who
-/// wait are asked to cancel, again and again, until nobody works any more. So each wait ends that is going on or begins
-/// yet: it is granted, or cancelled, and its transaction aborts. Who doesn't wait ends its transaction as ever.
+/// Shuts down as a server does, with `session`: by `watch` nobody begins another transaction from then on,
+/// and all who wait are asked to cancel, again and again, until nobody works any more. So each wait ends that
+/// is going on or begins yet: it is granted, or cancelled, and its transaction aborts. Who doesn't wait ends
+/// its transaction as ever.
 pub fn shut_down<B: Board<Part>, R: Wait + Clock>(
     rt: &R,
     watch: &Watch,

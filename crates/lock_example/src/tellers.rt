@@ -1,5 +1,5 @@
-//! What the bank's threads do: transfers, each a transaction of three locks, and now and then an alteration of the
-//! table.
+//! What the bank's threads do: transfers, each a transaction of three locks, and now and then an alteration
+//! of the table.
 
 ghost use Rattle.std.specs.Prelude.{◌<◌};
 ghost use Rattle.lock_manager.specs.Crews.{KeepsSeat};
@@ -42,7 +42,8 @@ impl Transfer {
     }
 }
 
-/// Makes as many transfers with `session` as `transfers` says, one after another, unless the bank shuts down before.
+/// Makes as many transfers with `session` as `transfers` says, one after another, unless the bank shuts down
+/// before.
 pub fn serve<B: Board<Part>, R: Wait>(
     rt: &R,
     bank: &Bank,
@@ -86,8 +87,8 @@ fn transfer_at_last<B: Board<Part>, R: Wait>(
     }
 }
 
-/// Makes `transfer` in one transaction of `session`, and answers whether it was made: the transaction commits where all
-/// locks were had, otherwise it aborts, and nothing was paid.
+/// Makes `transfer` in one transaction of `session`, and answers whether it was made: the transaction commits
+/// where all locks were had, otherwise it aborts, and nothing was paid.
 fn has_transferred<B: Board<Part>, R: Wait>(
     rt: &R,
     bank: &Bank,
@@ -105,8 +106,8 @@ fn has_transferred<B: Board<Part>, R: Wait>(
     locked.is_ok()
 }
 
-/// Takes the locks of `transfer`: the table for writing, and both accounts. Two tellers may wait for one another,
-/// each at the account that the other one has. So each wait shows to the watchdog, by `watch`.
+/// Takes the locks of `transfer`: the table for writing, and both accounts. Two tellers may wait for one
+/// another, each at the account that the other one has. So each wait shows to the watchdog, by `watch`.
 fn lock_for<B: Board<Part>, R: Wait>(
     rt: &R,
     watch: &Watch,
@@ -120,8 +121,8 @@ fn lock_for<B: Board<Part>, R: Wait>(
     take(rt, watch, session, account(transfer.to), Mode::Exclusive)
 }
 
-/// Takes `mode` on `tag` for the transaction of `session`, and waits where something is in the way, which `watch`
-/// shows.
+/// Takes `mode` on `tag` for the transaction of `session`, and waits where something is in the way, which
+/// `watch` shows.
 fn take<B: Board<Part>, R: Wait>(
     rt: &R,
     watch: &Watch,
@@ -152,9 +153,9 @@ fn end<B: Board<Part>, R: Wait>(rt: &R, session: &mut OwnSession<Part, B>, is_go
     }
 }
 
-/// Alters the table with `session` as often as `alterations` says, unless the bank shuts down before. Others that want
-/// to read or write wait behind its request meanwhile. So where the table isn't had in time, the request is given up,
-/// the others go on, and the migration tries later.
+/// Alters the table with `session` as often as `alterations` says, unless the bank shuts down before. Others
+/// that want to read or write wait behind its request meanwhile. So where the table isn't had in time, the
+/// request is given up, the others go on, and the migration tries later.
 pub fn migrate<B: Board<Part>, R: Wait + Clock>(
     rt: &R,
     bank: &Bank,

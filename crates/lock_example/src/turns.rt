@@ -1,4 +1,5 @@
-//! Two threads of a server share a lock manager: one reads and writes a table, which the other wants to alter.
+//! Two threads of a server share a lock manager: one reads and writes a table, which the other wants to
+//! alter.
 
 ghost use Rattle.lock_manager.specs.Crews.{KeepsManager};
 
@@ -76,8 +77,9 @@ fn tell<R: Threads + Wait + Sync>(rt: &R, alloc: Global) -> Result<Outcome, Refu
         }
     };
 
-    // A turn runs in two threads, each of which borrows a session, and is over once both are joined. None of the
-    // requests of the first two turns is in the way of the other, so the answers are the same in each run.
+    // A turn runs in two threads, each of which borrows a session, and is over once both are joined. None of
+    // the requests of the first two turns is in the way of the other, so the answers are the same in each
+    // run.
     let (read, index) = join_mut(
         rt,
         &mut || ask(rt, &mut worker, ACCOUNTS, Mode::AccessShare),
@@ -108,8 +110,8 @@ fn tell<R: Threads + Wait + Sync>(rt: &R, alloc: Global) -> Result<Outcome, Refu
     })
 }
 
-/// Asks for `table` in `mode` on behalf of the transaction of `session`. The session stays one of the same manager,
-/// as its close wants.
+/// Asks for `table` in `mode` on behalf of the transaction of `session`. The session stays one of the same
+/// manager, as its close wants.
 fn ask<R: Wait>(rt: &R, session: &mut Session<'_>, table: Tag, mode: Mode) -> Answer
     ensures same_manager { KeepsManager session.old session.new }
 {
@@ -123,8 +125,8 @@ fn commit<R: Wait>(rt: &R, session: &mut Session<'_>)
     session.commit(rt);
 }
 
-/// Ends the transaction of `session`, and asks for `table` in `mode` on behalf of the next one. Where somebody is in
-/// the way the session waits.
+/// Ends the transaction of `session`, and asks for `table` in `mode` on behalf of the next one. Where
+/// somebody is in the way the session waits.
 fn commit_and_wait<R: Wait>(rt: &R, session: &mut Session<'_>, table: Tag, mode: Mode) -> Answer
     ensures same_manager { KeepsManager session.old session.new }
 {

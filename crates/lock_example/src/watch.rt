@@ -11,8 +11,8 @@ use std::sync::atomic::{AtomicBool, AtomicU64, Ordering};
 use std::thread;
 use std::time::{Clock, Duration};
 
-/// How many milliseconds the watchdog sleeps between two looks. Who is in the same wait at two looks has waited too
-/// long.
+/// How many milliseconds the watchdog sleeps between two looks. Who is in the same wait at two looks has
+/// waited too long.
 const PAUSE: u64 = 2;
 
 /// The length of a list that has a place for each session number.
@@ -21,7 +21,8 @@ const NUMBERS: usize = USUAL_SESSIONS as usize;
 /// What the threads of a day show the watchdog.
 #[derive(Drop)]
 pub struct Watch {
-    /// For each session how many times it has begun or ended a wait: where the number is odd, the session is in a wait.
+    /// For each session how many times it has begun or ended a wait: where the number is odd, the session is
+    /// in a wait.
     waits: [AtomicU64; NUMBERS],
     /// How many threads of the bank still work.
     working: AtomicU64,
@@ -82,8 +83,8 @@ impl Watch {
         self.stopped.load(Ordering::SeqCst)
     }
 
-    /// Whether the session numbered `place` is in a wait in which it was at the look before too, by `seen`, which keeps
-    /// what is seen now for the next look.
+    /// Whether the session numbered `place` is in a wait in which it was at the look before too, by `seen`,
+    /// which keeps what is seen now for the next look.
     fn waits_too_long(&self, place: usize, seen: &mut [u64; NUMBERS]) -> bool
         requires { place < 64 }
     {
@@ -94,9 +95,9 @@ impl Watch {
     }
 }
 
-/// Looks again and again at who waits, with `session`, until no thread of `watch` works any more. Asks those who wait
-/// in a circle, or too long, to cancel. After as many looks as `closes_after` says, if it says a number, shuts the bank
-/// down.
+/// Looks again and again at who waits, with `session`, until no thread of `watch` works any more. Asks those
+/// who wait in a circle, or too long, to cancel. After as many looks as `closes_after` says, if it says a
+/// number, shuts the bank down.
 pub fn keep_watch<B: Board<Part>, R: Wait + Clock>(
     rt: &R,
     watch: &Watch,
@@ -133,8 +134,8 @@ fn look<B: Board<Part>>(watch: &Watch, session: &mut OwnSession<Part, B>, seen: 
     }
 }
 
-/// Asks the session numbered `number` to cancel its wait. `Asked::Waiting` says that it waited as it was asked, and
-/// no more: where it is granted before it has cancelled, it has the lock.
+/// Asks the session numbered `number` to cancel its wait. `Asked::Waiting` says that it waited as it was
+/// asked, and no more: where it is granted before it has cancelled, it has the lock.
 fn ask<B: Board<Part>>(session: &mut OwnSession<Part, B>, number: u16)
     ensures seat { KeepsSeat B.seat session.old session.new }
 {

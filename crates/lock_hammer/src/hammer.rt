@@ -21,13 +21,13 @@ use std::thread::Threads;
 /// How many entries the local lock table of each session of a hammer may have.
 const MAX_LOCAL: u32 = 16;
 
-/// Has `sessions` sessions of a lock manager of its own play `rounds` rounds, each in a thread of its own, once `gate`
-/// lets it pass. In round `r` session `s` asks relation `5/(16384 + r % 4)` for the mode with number `1 + (s + r) % 8`,
-/// and unlocks what it is granted; every sixteenth time it waits, and else it is refused where something is in the way.
-/// When all threads have ended, each session takes AccessShareLock on `5/16384`, the first one ShareLock on `5/16385`,
-/// and two lines go to `writer`: what an audit counts, and, when all sessions are closed, what the manager still has.
-/// Where a gate answered no, or memory ran out, the hammer ends with `GateHeld` or `NoMemory` when all threads have
-/// ended and all sessions are closed.
+/// Has `sessions` sessions of a lock manager of its own play `rounds` rounds, each in a thread of its own,
+/// once `gate` lets it pass. In round `r` session `s` asks relation `5/(16384 + r % 4)` for the mode with
+/// number `1 + (s + r) % 8`, and unlocks what it is granted; every sixteenth time it waits, and else it is
+/// refused where something is in the way. When all threads have ended, each session takes AccessShareLock on
+/// `5/16384`, the first one ShareLock on `5/16385`, and two lines go to `writer`: what an audit counts, and,
+/// when all sessions are closed, what the manager still has. Where a gate answered no, or memory ran out, the
+/// hammer ends with `GateHeld` or `NoMemory` when all threads have ended and all sessions are closed.
 pub fn run_hammer<H: AllocGlobal + Threads + Wait + Sync, G: Gate + Sync, W: Write + Drop>(
     rt: &H,
     gate: &G,
@@ -41,9 +41,10 @@ pub fn run_hammer<H: AllocGlobal + Threads + Wait + Sync, G: Gate + Sync, W: Wri
     run_watched_hammer(rt, gate, &Unwatched, writer, Hammer { sessions, rounds })
 }
 
-/// Has the sessions of a hammer of `size` play, each in a thread of its own, once `gate` lets it pass. Prints on
-/// `writer` what an audit counts at the end, and what the manager has once all sessions are closed. Each worker counts
-/// its rounds with `progress`, which ends once all workers have ended, before anything is written.
+/// Has the sessions of a hammer of `size` play, each in a thread of its own, once `gate` lets it pass. Prints
+/// on `writer` what an audit counts at the end, and what the manager has once all sessions are closed. Each
+/// worker counts its rounds with `progress`, which ends once all workers have ended, before anything is
+/// written.
 pub fn run_watched_hammer<
     H: AllocGlobal + Threads + Wait + Sync,
     G: Gate + Sync,
@@ -70,9 +71,9 @@ pub fn run_watched_hammer<
     print_final(&mut writer, last)
 }
 
-/// Opens the sessions of a hammer of `size` at `desk`, has them play, each once `gate` lets it pass, and closes them.
-/// The workers report to `reports`, and `writer` gets what an audit counts before the close. Works over any board of
-/// the shared table.
+/// Opens the sessions of a hammer of `size` at `desk`, has them play, each once `gate` lets it pass, and
+/// closes them. The workers report to `reports`, and `writer` gets what an audit counts before the close.
+/// Works over any board of the shared table.
 fn hammer<
     B: Board<Part> + Send,
     D: Desk<OwnSession<Part, B>>,
@@ -104,8 +105,8 @@ fn hammer<
     hammered
 }
 
-/// Has the sessions of `crew` play `rounds` rounds, each once `gate` lets it pass, and take their last locks, and has
-/// `desk` count what they have. The workers report to `reports`, and `writer` gets the counts.
+/// Has the sessions of `crew` play `rounds` rounds, each once `gate` lets it pass, and take their last locks,
+/// and has `desk` count what they have. The workers report to `reports`, and `writer` gets the counts.
 fn play<
     B: Board<Part> + Send,
     D: Desk<OwnSession<Part, B>>,

@@ -1,5 +1,5 @@
-//! A hammer on the lock manager: sessions that lock and unlock in threads of their own, and what is counted when they
-//! have ended.
+//! A hammer on the lock manager: sessions that lock and unlock in threads of their own, and what is counted
+//! when they have ended.
 #![tactic(auto)]
 
 mod hammer;

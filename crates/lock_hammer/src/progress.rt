@@ -30,9 +30,9 @@ impl Progress for Unwatched {
     fn end(&self) {}
 }
 
-/// One line on a terminal, written anew a few times a second, that shows how many of all rounds of a hammer are played,
-/// and how many that is a second. A hammer that ends before the time of its line has come writes none. The line uses
-/// nothing of the lock manager.
+/// One line on a terminal, written anew a few times a second, that shows how many of all rounds of a hammer
+/// are played, and how many that is a second. A hammer that ends before the time of its line has come writes
+/// none. The line uses nothing of the lock manager.
 #[derive(Drop)]
 pub struct ProgressLine<'a, C, E> {
     clock: &'a C,
@@ -42,8 +42,8 @@ pub struct ProgressLine<'a, C, E> {
 }
 
 impl<'a, C: Clock, E: Write> ProgressLine<'a, C, E> {
-    /// A line on `writer` for a hammer of `all` rounds, which begin now by `clock`. The error is one of reading the
-    /// clock.
+    /// A line on `writer` for a hammer of `all` rounds, which begin now by `clock`. The error is one of
+    /// reading the clock.
     pub fn new(clock: &'a C, writer: &'a mut E, all: u64) -> io::Result<Self> {
         let begun = Instant::now(clock)?;
         let line = Line {
@@ -108,8 +108,8 @@ impl<'a, E: Write> Line<'a, E> {
         }
     }
 
-    /// Ends the progress line, if one was written: writes it for the last time, at the time `now`, with `played` of
-    /// `all` rounds.
+    /// Ends the progress line, if one was written: writes it for the last time, at the time `now`, with
+    /// `played` of `all` rounds.
     fn end(&mut self, now: Instant, played: u64, all: u64) {
         if self.is_written {
             self.write(now, played, all);
@@ -118,8 +118,8 @@ impl<'a, E: Write> Line<'a, E> {
         }
     }
 
-    /// Writes at the time `now` that `played` of `all` rounds are played, over the old text of the progress line, and
-    /// erases what is left of that.
+    /// Writes at the time `now` that `played` of `all` rounds are played, over the old text of the progress
+    /// line, and erases what is left of that.
     fn write(&mut self, now: Instant, played: u64, all: u64) {
         let rate = rounds_a_second(played, now.duration_since(self.begun));
         // Where the line can't be written, the hammer goes on all the same.

@@ -14,14 +14,14 @@ use std::thread::{Threads, for_each_mut};
 /// The database of all sessions of a hammer.
 pub const DATABASE: u32 = 5;
 
-/// The number of the first relation that the sessions of a hammer lock. They lock `RELATIONS` relations with numbers in
-/// a row.
+/// The number of the first relation that the sessions of a hammer lock. They lock `RELATIONS` relations with
+/// numbers in a row.
 const FIRST_RELATION: u32 = 16_384;
 
 const RELATIONS: u32 = 4;
 
-/// Out of how many rounds a worker waits for its lock in one. In the others it is refused where something is in the
-/// way.
+/// Out of how many rounds a worker waits for its lock in one. In the others it is refused where something is
+/// in the way.
 const PATIENCE: u32 = 16;
 
 /// What a worker of a hammer passes before its first round.
@@ -110,7 +110,8 @@ fn relation(round: u32) -> Tag {
     Tag::relation(DATABASE, FIRST_RELATION + round % RELATIONS)
 }
 
-/// Has all of `sessions` do `task`, which starts rounds only where `gate` lets the worker pass, and report to `reports`.
+/// Has all of `sessions` do `task`, which starts rounds only where `gate` lets the worker pass, and report to
+/// `reports`.
 pub fn all_work<
     B: Board<Part> + Send,
     G: Gate + Sync,
@@ -123,8 +124,9 @@ pub fn all_work<
     each_works(rt, gate, reports, task, sessions.as_mut_slice());
 }
 
-/// Has each of `sessions` do `task` and report to `reports`. Rounds are played in as many threads as there are sessions,
-/// each once `gate` lets the worker pass. All else is done in one thread, in the order of the sessions.
+/// Has each of `sessions` do `task` and report to `reports`. Rounds are played in as many threads as there
+/// are sessions, each once `gate` lets the worker pass. All else is done in one thread, in the order of the
+/// sessions.
 fn each_works<B: Board<Part> + Send, G: Gate + Sync, P: Progress + Sync, R: Threads + Wait + Sync>(
     rt: &R,
     gate: &G,
@@ -146,8 +148,8 @@ fn each_works<B: Board<Part> + Send, G: Gate + Sync, P: Progress + Sync, R: Thre
     );
 }
 
-/// Has `session`, at `place` among the sessions of the hammer, do its part of `task` and report to `reports`. It plays
-/// rounds only if `gate` lets it pass.
+/// Has `session`, at `place` among the sessions of the hammer, do its part of `task` and report to `reports`.
+/// It plays rounds only if `gate` lets it pass.
 fn play_part<B: Board<Part>, G: Gate, P: Progress, R: Wait>(
     rt: &R,
     gate: &G,
@@ -169,8 +171,8 @@ fn play_part<B: Board<Part>, G: Gate, P: Progress, R: Wait>(
     }
 }
 
-/// Has the worker of `session` ask `gate` once and then play its `rounds`, as long as there is memory, and report to
-/// `reports`.
+/// Has the worker of `session` ask `gate` once and then play its `rounds`, as long as there is memory, and
+/// report to `reports`.
 fn work<B: Board<Part>, G: Gate, P: Progress, R: Wait>(
     rt: &R,
     gate: &G,
@@ -215,8 +217,8 @@ fn play_round<B: Board<Part>, R: Wait>(
     }
 }
 
-/// Has `session` ask for `mode` on `tag` in `round`: in the last of every sixteen rounds it waits where something is in
-/// the way, and in the others it is refused then.
+/// Has `session` ask for `mode` on `tag` in `round`: in the last of every sixteen rounds it waits where
+/// something is in the way, and in the others it is refused then.
 fn ask<B: Board<Part>, R: Wait>(
     rt: &R,
     round: u32,

@@ -20,11 +20,11 @@ use Rattle.lock_manager.specs.declared.requests.Begun.{Begun}
 use Rattle.lock_manager.specs.declared.requests.Begun.TheVariants.{Granted, AlreadyHeld, Queued}
 use Rattle.lock_manager.specs.Requests.{Requests}
 
--- An acquire: what it is answered by what the session owns, and what joins its trace. `a` and `uses` are the account and the
--- use counts before it, `b` and `left` those after it.
+-- An acquire: what it is answered by what the session owns, and what joins its trace. `a` and `uses` are the
+-- account and the use counts before it, `b` and `left` those after it.
 
--- A mode that the session has is counted once more for the owner, unless his count is full. One that it has not, and that may
--- be had this way, is refused where the session has as many entries as it may have.
+-- A mode that the session has is counted once more for the owner, unless his count is full. One that it has
+-- not, and that may be had this way, is refused where the session has as many entries as it may have.
 pub record AnswersByOwned {A : Type 0} (owned : Owned) (tag : Tag) (mode : Mode) (owner : Owner) (already : A) (may_be_had : Bool)
     (result : Result A Refusal) : Type 0 where
   pub already_held :
@@ -34,8 +34,8 @@ pub record AnswersByOwned {A : Type 0} (owned : Owned) (tag : Tag) (mode : Mode)
       IsErrOf result LocalFull
       ↔ ((has_entry owned.entries tag mode ≡ false) × (may_be_had ≡ true) × (length owned.entries ≡ owned.max_local))
 
--- Room for the entry comes first: what others have, or that all slots are in use, is answered only where one entry more can be
--- made with no growth.
+-- Room for the entry comes first: what others have, or that all slots are in use, is answered only where one
+-- entry more can be made with no growth.
 abbrev pub HasEntryRoom : Owned → Refusal → Type 0
 HasEntryRoom owned (Conflict other its how) = 0 < owned.room
 HasEntryRoom owned (SimpleDeadlock other) = 0 < owned.room
@@ -51,22 +51,24 @@ IsOwnRefusal LocalFull = Unit {0}
 IsOwnRefusal NotEligible = Unit {0}
 IsOwnRefusal _ = ⊥
 
--- An acquire is answered by what the session has of its own alone. That memory runs out is no such answer, since that
--- may be the session's own or the table's.
+-- An acquire is answered by what the session has of its own alone. That memory runs out is no such answer,
+-- since that may be the session's own or the table's.
 abbrev pub IsOwnAnswer : {A : Type 0} → A → Result A Refusal → Type 0
 IsOwnAnswer already (Ok answer) = answer ≡ already
 IsOwnAnswer already (Err refusal) = IsOwnRefusal refusal
 
--- An acquire by the fast path is answered by what the session has of its own alone also where all slots of the relation's group are in use, which its use
--- counts tell, and where memory runs out, which is for the session's own entry then.
+-- An acquire by the fast path is answered by what the session has of its own alone also where all slots of
+-- the relation's group are in use, which its use counts tell, and where memory runs out, which is for the
+-- session's own entry then.
 abbrev pub IsOwnAnswerBySlot : Result Acquired Refusal → Type 0
 IsOwnAnswerBySlot (Ok answer) = answer ≡ acquired.AlreadyHeld
 IsOwnAnswerBySlot (Err SlotsFull) = Unit {0}
 IsOwnAnswerBySlot (Err NoMemory) = Unit {0}
 IsOwnAnswerBySlot (Err refusal) = IsOwnRefusal refusal
 
--- An acquire is refused for want of memory: for the session's own entry, and then nothing was done on the board, which is the
--- one that it was, or for the request. `old` and `new` are the boards before and after it.
+-- An acquire is refused for want of memory: for the session's own entry, and then nothing was done on the
+-- board, which is the one that it was, or for the request. `old` and `new` are the boards before and after
+-- it.
 abbrev pub IsRefusedForMemory :
     {B : Type 0} → (B → Account) → Kind → Seated → Owned → UseCounts → Tag → Mode → B → B → UseCounts → Type 0
 IsRefusedForMemory view kind seat owned uses tag mode old new left =
@@ -79,8 +81,9 @@ entries_begun Granted entries tag mode owner = with_one_more entries tag mode ow
 entries_begun AlreadyHeld entries tag mode owner = with_one_more entries tag mode owner
 entries_begun Queued entries tag mode owner = entries
 
--- What joins the trace of an acquire of either kind, by its answer. One of a mode with an entry makes no step, nor does one that
--- its own limits refuse, or want of memory for its entry. Every other one is a request.
+-- What joins the trace of an acquire of either kind, by its answer. One of a mode with an entry makes no
+-- step, nor does one that its own limits refuse, or want of memory for its entry. Every other one is a
+-- request.
 abbrev pub Begins :
     Kind → Seated → Owned → Account → UseCounts → Tag → Mode → Result Begun Refusal → Account → UseCounts → Type 0
 Begins kind seat owned a uses tag mode (Ok AlreadyHeld) b left = (b ≡ a) × (left ≡ uses)
@@ -107,9 +110,9 @@ abbrev pub Acquires :
 Acquires seat owned a uses tag mode result b left =
     Begins Conditional seat owned a uses tag mode (begun_at_once result) b left
 
--- What joins the trace of an acquire by the fast path alone, by its answer. One of a mode with an entry makes no
--- step, nor does one that may not go by a slot, nor one that its own limits refuse, or want of memory for its entry.
--- Every other one is tried once, and waits for nobody.
+-- What joins the trace of an acquire by the fast path alone, by its answer. One of a mode with an entry makes
+-- no step, nor does one that may not go by a slot, nor one that its own limits refuse, or want of memory for
+-- its entry. Every other one is tried once, and waits for nobody.
 abbrev pub AcquiresBySlot :
     ℕ → ℕ → Owned → Account → UseCounts → Tag → Mode → Result Acquired Refusal → Account → UseCounts → Type 0
 AcquiresBySlot groups number owned a uses tag mode (Ok acquired.AlreadyHeld) b left = (b ≡ a) × (left ≡ uses)

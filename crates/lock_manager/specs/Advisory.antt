@@ -9,7 +9,8 @@ use Rattle.local_locks.specs.Owned.{count_in_all}
 
 -- All advisory locks that the session owns are given back at once.
 
--- what is left of the session's count: nothing in the user method, that of advisory locks, and all of it in the default method
+-- what is left of the session's count: nothing in the user method, that of advisory locks, and all of it in
+-- the default method
 abbrev pub kept_by_unlock_all : LockMethod → ℕ → ℕ
 kept_by_unlock_all Default count = count
 kept_by_unlock_all User count = 0

@@ -19,8 +19,8 @@ use Rattle.lock_manager.specs.Sessions.{SessionView, IsResting, IsUnchanged}
 
 -- An audit of all open sessions, by what their boards show.
 
--- The opener's seat may count once this many sessions more are gathered: some are, none of which waits, and of all numbers given out each is
--- among these, or has closed.
+-- The opener's seat may count once this many sessions more are gathered: some are, none of which waits, and
+-- of all numbers given out each is among these, or has closed.
 pub record MayCount (left : ℕ) (opener : OpenerState PartView) : Type 0 where
   pub first : History PartView
   pub others : List (History PartView)
@@ -50,9 +50,10 @@ module _ {B : Type 0} (seat : B → Seated) (view : B → Account) (stack : B �
     pub uses : new.uses ≡ old.uses
     pub owned : new.owned ≡ old.owned
 
-  -- An audit by the first session. All else of it is as before, and the others are as before altogether; nobody makes a quiet step. It
-  -- counts what its own loads and the contents taken together show. Modes in slots and rows of holds are as many as all have local entries, and the
-  -- counters' sum is how many of these are strong.
+  -- An audit by the first session. All else of it is as before, and the others are as before altogether;
+  -- nobody makes a quiet step. It counts what its own loads and the contents taken together show. Modes in
+  -- slots and rows of holds are as many as all have local entries, and the counters' sum is how many of these
+  -- are strong.
   pub record AuditsBy {E : Type 0} (limit groups : ℕ) (first : SessionView B) (others new : List (SessionView B)) (result : Result Audit E) : Type 0 where
     pub first_after : SessionView B
     pub others_after : List (SessionView B)
@@ -77,7 +78,8 @@ module _ {B : Type 0} (seat : B → Seated) (view : B → Account) (stack : B �
   abbrev pub AreOwners : List (SessionView B) → Type 0
   AreOwners sessions = AllByRecursion (λ session. IsResting seat view stack session × IsWellOwned session.owned) sessions
 
-  -- With these gathered behind those that were, the first of all has counted; then they are back as they were.
+  -- With these gathered behind those that were, the first of all has counted; then they are back as they
+  -- were.
   pub record CountsWith (old : OpenerState PartView) (sessions : List (SessionView B)) (result : Result Audit NoMemory)
       (new : OpenerState PartView) (after : List (SessionView B)) : Type 0 where
     pub counts : Counts old.limit old.groups (first_account content_of old.gathered).trace result (first_account content_of new.gathered).trace

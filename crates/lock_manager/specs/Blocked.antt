@@ -20,21 +20,23 @@ row_of_wait wait = record { session = wait.session; tag = wait.tag; mode = wait.
 abbrev pub HasBlockers : Content → Blocked → Type 0
 HasBlockers content wait = wait.blockers.items ≡ blockers_in content wait.tag wait.session
 
--- These are just the waits in the content, in the order of its listing, each with just those who are in its way there.
+-- These are just the waits in the content, in the order of its listing, each with just those who are in its
+-- way there.
 pub record AreBlocked (content : Content) (found : List Blocked) : Type 0 where
   pub rows : List TableRow
   pub listed : IsListing content rows
   pub waits : map row_of_wait found ≡ filter (λ row. not row.granted) rows
   pub in_the_way : All (HasBlockers content) found
 
--- These are just the waits in several contents, one content after another, each with just those who are in its way there.
+-- These are just the waits in several contents, one content after another, each with just those who are in
+-- its way there.
 abbrev pub AreBlockedIn : List Content → List Blocked → Type 0
 AreBlockedIn [] found = found ≡ []
 AreBlockedIn (content ∷ contents) found =
     (its others : List Blocked) × (found ≡ its ++ others) × AreBlocked content its × AreBlockedIn contents others
 
--- All sixteen partitions are taken, in rising order, and put back as they were, in the opposite order: while all are in hand
--- their contents stand side by side, and the waits are those of these.
+-- All sixteen partitions are taken, in rising order, and put back as they were, in the opposite order: while
+-- all are in hand their contents stand side by side, and the waits are those of these.
 pub record ListsBlocked (number : ℕ) (a : Account) (result : Result (Vec Blocked) Refusal) (b : Account) : Type 0 where
   pub contents : List Content
   pub sixteen : length contents ≡ 16
@@ -50,7 +52,8 @@ pub record AppendsBlocked (content : Content) (old new : List Blocked) : Type 0 
   pub behind : new ≡ old ++ added
   pub blocked : AreBlocked content added
 
--- All partitions from one on are taken and put back as they were, and the waits in their contents join the list.
+-- All partitions from one on are taken and put back as they were, and the waits in their contents join the
+-- list.
 pub record ListsBlockedFrom (number partition : ℕ) (a : Account) (old : List Blocked)
     (result : Result (Unit {0}) no_memory.NoMemory) (b : Account) (new : List Blocked) : Type 0 where
   pub contents : List Content

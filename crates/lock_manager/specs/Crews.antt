@@ -9,7 +9,8 @@ use Rattle.lock_manager.specs.Sessions.{SessionView}
 -- What a program says of the sessions that its functions take and lend, by the seats of their boards.
 
 module _ {B : Type 0} (seat : B → Seated) where
-  -- The session is the same one of the same manager. A function that borrows a session ensures it, so that its caller can close it.
+  -- The session is the same one of the same manager. A function that borrows a session ensures it, so that
+  -- its caller can close it.
   abbrev pub KeepsSeat : SessionView B → SessionView B → Type 0
   KeepsSeat old new = seat new.board ≡ seat old.board
 
@@ -21,7 +22,8 @@ module _ {B : Type 0} (seat : B → Seated) where
   abbrev pub AreOf : ManagerView → List (SessionView B) → Type 0
   AreOf manager sessions = All (λ (session : SessionView B). (seat session.board).table ≡ manager.table) sessions
 
-  -- Each session of a list is of the manager that the one in its place was of. Threads to which a list is lent ensure it.
+  -- Each session of a list is of the manager that the one in its place was of. Threads to which a list is
+  -- lent ensure it.
   pub record KeepManagers (old new : List (SessionView B)) : Type 0 where
     pub each : (manager : ManagerView) → AreOf manager old → AreOf manager new
 
@@ -29,7 +31,8 @@ module _ {B : Type 0} (seat : B → Seated) where
   abbrev pub SeatsAre : (SessionView B → Seated) → Type 0
   SeatsAre its_seat = (session : SessionView B) → its_seat session ≡ seat session.board
 
--- A session at the table of a manager is one of the same manager after a call: what a function ensures that borrows one.
+-- A session at the table of a manager is one of the same manager after a call: what a function ensures that
+-- borrows one.
 abbrev pub KeepsManager : SessionView (SeatBoard KeptPart) → SessionView (SeatBoard KeptPart) → Type 0
 KeepsManager old new = new.board.table.now.table_id ≡ old.board.table.now.table_id
 

@@ -8,7 +8,8 @@ use Rattle.lock_manager.specs.Sessions.{SessionView}
 
 -- What a desk shows, in the words that an opener and a session have for it.
 
--- the opener of a desk: of which manager it is, how many it has given out, how many are open, and the histories of those that have closed
+-- the opener of a desk: of which manager it is, how many it has given out, how many are open, and the
+-- histories of those that have closed
 abbrev pub opener_at : ManagerView → ℕ → ℕ → List (History PartView) → OpenerView
 opener_at manager issued live closed = record {
   table = manager.table;

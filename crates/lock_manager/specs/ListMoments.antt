@@ -30,15 +30,15 @@ pub record HasItsMoment {T : Type 0} (first : World) (events : List Event) (last
   pub leads : Leads next after last
   pub moves : DoesItsMove world number step next
 
--- By the step that this mark tells its session comes to own the mode on the object: the mode is set in a slot, a
--- partition is put with its grant, or the session clears its wait word, once its wait was granted.
+-- By the step that this mark tells its session comes to own the mode on the object: the mode is set in a
+-- slot, a partition is put with its grant, or the session clears its wait word, once its wait was granted.
 abbrev pub ComesToOwn : {T : Type 0} → Mark T → Tag → Mode → Type 0
 ComesToOwn {T} mark tag mode =
     ((slot : ℕ) × (mark ≡ SetSlot slot tag mode))
     ⊎ (((part : ℕ) × (found : ℕ) × (put : T) × (mark ≡ PutPart part (Grant tag mode) put found)) ⊎ (mark ≡ ClearedWait))
 
--- By the step that this mark tells its session gives the mode on the object up: the mode is cleared in a slot, a
--- partition is put with its release, or somebody is marked granted whom its release wakes.
+-- By the step that this mark tells its session gives the mode on the object up: the mode is cleared in a
+-- slot, a partition is put with its release, or somebody is marked granted whom its release wakes.
 abbrev pub GivesUp : {T : Type 0} → Mark T → Tag → Mode → Type 0
 GivesUp {T} mark tag mode =
     ((slot : ℕ) × (mark ≡ ClearedSlot slot tag mode))

@@ -26,15 +26,16 @@ use Rattle.lock_manager.specs.declared.listing.Listing.{Listing}
 
 -- A listing of all that is held and awaited, as the session's trace has it.
 
--- the steps of taking the partitions from this one on, in rising order, and of putting them back as they were, in the
--- opposite order
+-- the steps of taking the partitions from this one on, in rising order, and of putting them back as they
+-- were, in the opposite order
 abbrev pub listing_steps : ℕ → List Content → List TraceEntry
 listing_steps partition [] = []
 listing_steps partition (content ∷ contents) =
     Took partition content ∷ listing_steps (partition + 1) contents ++ Episode partition content content ∷ []
 
--- What the session that takes a partition knows there of itself: where its own holds stand, with its slots as it remembers them;
--- that its holds there are its own, or what it awaits; and that it stands in no queue where it awaits nothing.
+-- What the session that takes a partition knows there of itself: where its own holds stand, with its slots as
+-- it remembers them; that its holds there are its own, or what it awaits; and that it stands in no queue
+-- where it awaits nothing.
 pub record IsOfCaller (number : ℕ) (own : Tag → Mode → Bool) (awaited : Option OwnWait) (database : ℕ) (remembered : ℕ → ℕ)
     (partition : ℕ) (content : Content) : Type 0 where
   pub stand : OwnHoldsStand number own database remembered partition content
@@ -49,8 +50,8 @@ AreOfCaller number own awaited database remembered partition (content ∷ conten
     IsOfCaller number own awaited database remembered partition content
     × AreOfCaller number own awaited database remembered (partition + 1) contents
 
--- All sixteen partitions are taken, in rising order, and put back as they were, in the opposite order. While all are in hand
--- their contents stand side by side, and the rows list these.
+-- All sixteen partitions are taken, in rising order, and put back as they were, in the opposite order. While
+-- all are in hand their contents stand side by side, and the rows list these.
 pub record ListsTable (number : ℕ) (a : Account) (result : Result (Unit {0}) no_memory.NoMemory) (rows : List TableRow)
     (b : Account) : Type 0 where
   pub contents : List Content
@@ -71,16 +72,16 @@ abbrev pub times_listed : Listing → ℕ → Tag → Mode → ℕ
 times_listed listing session tag mode =
     times_shown listing.fast.items session tag mode + times_in_table listing.table.items session tag mode true
 
--- The hold left its slot between the two reads: the slots of its session showed it as they were loaded, and it stood in
--- the content of its object's partition as that was taken.
+-- The hold left its slot between the two reads: the slots of its session showed it as they were loaded, and
+-- it stood in the content of its object's partition as that was taken.
 pub record LeftItsSlot (number database : ℕ) (loaded : ℕ → ℕ) (contents : List Content) (tag : Tag) (mode : Mode) :
     Type 0 where
   pub shown : slot_holds database loaded tag mode ≡ true
   pub there : (content_at contents (partition_of tag)).holds number tag mode ≡ true
 
--- What it tells of the caller, whose slots showed these words as they were loaded, before these contents were taken: where
--- its own holds stand as each was taken. Each own hold has one row, or two where it left its slot between the two reads;
--- and no other row is the caller's.
+-- What it tells of the caller, whose slots showed these words as they were loaded, before these contents were
+-- taken: where its own holds stand as each was taken. Each own hold has one row, or two where it left its
+-- slot between the two reads; and no other row is the caller's.
 pub record ListsOwn (number : ℕ) (own : Tag → Mode → Bool) (database : ℕ) (loaded : ℕ → ℕ) (contents : List Content)
     (listing : Listing) : Type 0 where
   pub stand :
@@ -97,9 +98,10 @@ pub record ListsOwn (number : ℕ) (own : Tag → Mode → Bool) (database : ℕ
 abbrev pub HasWords : Tag → Type 0
 HasWords tag = (database relation : ℕ) → tag ≡ Relation database relation → database < 2 ^ 32
 
--- A hold that stands throughout the listing is not missed. Let any events lead from a World in which the caller's trace is
--- the one before the listing, through these Worlds, to one in which it is the one after: a hold of any session that in each of
--- them stands in one and the same slot, one of its groups, or in a content has a row.
+-- A hold that stands throughout the listing is not missed. Let any events lead from a World in which the
+-- caller's trace is the one before the listing, through these Worlds, to one in which it is the one after: a
+-- hold of any session that in each of them stands in one and the same slot, one of its groups, or in a
+-- content has a row.
 abbrev pub MissesNone : ℕ → ℕ → ℕ → List TraceEntry → List TraceEntry → Listing → Type 0
 MissesNone groups limit number before after listing =
     (first : World) (events : List Event) (worlds : List World) → SafeWorld first → RunsThrough first events worlds
@@ -109,10 +111,10 @@ MissesNone groups limit number before after listing =
     → ((at : ℕ) (w : World) → slice_get (first ∷ worlds) at ≡ Some w → StandsThereOrInContent w session tag mode slot)
     → 1 ≤ times_listed listing session tag mode
 
--- A whole listing. The database and the slots of each session that there can be are loaded, in rising order, and the
--- slot rows are those of what these loads showed: no slot past the groups that were loaded is in use. The lock of a
--- session's slots is shared while they are loaded, so that they stand so at one moment, and no relation has two of them.
--- After that the partitions are taken, and the table's rows list their contents.
+-- A whole listing. The database and the slots of each session that there can be are loaded, in rising order,
+-- and the slot rows are those of what these loads showed: no slot past the groups that were loaded is in use.
+-- The lock of a session's slots is shared while they are loaded, so that they stand so at one moment, and no
+-- relation has two of them. After that the partitions are taken, and the table's rows list their contents.
 pub record ListsAll (groups limit number : ℕ) (a : Account) (result : Result Listing Refusal) (b : Account) : Type 0 where
   pub database : ℕ → ℕ
   pub word : ℕ → ℕ → ℕ
@@ -124,7 +126,8 @@ pub record ListsAll (groups limit number : ℕ) (a : Account) (result : Result L
   pub sixteen : length contents ≡ 16
   pub trace : b.trace ≡ (a.trace ++ loads_of_all groups limit database word) ++ listing_steps 0 contents
   pub table : IfOk result (λ listing. IsListing (whole_of (content_at contents)) listing.table.items)
-  -- of the caller's holds none is missed and none invented, and of others' none that stands throughout is missed
+  -- of the caller's holds none is missed and none invented, and of others' none that stands throughout is
+  -- missed
   pub own : IfOk result (ListsOwn number a.own a.fast.database (word number) contents)
   pub misses_none : IfOk result (MissesNone groups limit number a.trace b.trace)
 
@@ -137,7 +140,8 @@ pub record StopsAtSlots (groups limit : ℕ) (a : Account) (result : Result List
   pub within : loaded ≤ limit
   pub trace : b.trace ≡ a.trace ++ loads_of_all groups loaded database word
 
--- What a listing leads to by its result: it goes through all slots and partitions, or memory ran out for its slot rows.
+-- What a listing leads to by its result: it goes through all slots and partitions, or memory ran out for its
+-- slot rows.
 abbrev pub Lists : ℕ → ℕ → ℕ → Account → Result Listing Refusal → Account → Type 0
 Lists groups limit number a result b = ListsAll groups limit number a result b ⊎ StopsAtSlots groups limit a result b
 

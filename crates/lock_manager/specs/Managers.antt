@@ -20,7 +20,8 @@ use Rattle.modes_core.specs.Sessions.{most_sessions, usual_sessions}
 
 pub record ManagerView : Type 0 where
   pub table : TableId
-  -- how many sessions the manager may open, how many groups of fast-path slots each has, and how many local entries each may have
+  -- how many sessions the manager may open, how many groups of fast-path slots each has, and how many local
+  -- entries each may have
   pub limit : ℕ
   pub groups : ℕ
   pub max_local : ℕ
@@ -30,13 +31,14 @@ pub record OpenerView : Type 0 where
   pub table : TableId
   pub limit : ℕ
   pub groups : ℕ
-  -- how many sessions the opener has given out, how many of these are open, and the histories of those that have closed, the last one first
+  -- how many sessions the opener has given out, how many of these are open, and the histories of those that
+  -- have closed, the last one first
   pub issued : ℕ
   pub live : ℕ
   pub closed : List (History PartView)
 
--- whether a manager with this many sessions at most can have as many sessions, local entries and groups of slots as the
--- configuration says
+-- whether a manager with this many sessions at most can have as many sessions, local entries and groups of
+-- slots as the configuration says
 abbrev pub is_within : ℕ → Config → Bool
 is_within most config =
     nat_le 1 config.sessions && (nat_le config.sessions most &&
@@ -71,8 +73,8 @@ pub record IsNew (manager : ManagerView) (opener : OpenerView) (config : Config)
   pub live : opener.live ≡ 0
   pub none_closed : opener.closed ≡ []
 
--- What is always so of an opener: it has given out no more than it may, and each that it has given out is open, or has
--- closed, once.
+-- What is always so of an opener: it has given out no more than it may, and each that it has given out is
+-- open, or has closed, once.
 pub record IsCounted (issued limit live : ℕ) (closed : List (History PartView)) : Type 0 where
   pub have_closed : HaveClosed issued closed
   pub all : live + length closed ≡ issued
@@ -87,8 +89,8 @@ pub record TakesBack (number : ℕ) (trace : List TraceEntry) (old new : OpenerV
   pub opener : new ≡ record old { live = old.live - 1; closed = history ∷ old.closed }
 
 module _ {B : Type 0} (seat : B → Seated) (view : B → Account) (stack : B → Stack) where
-  -- A session that the opener has just given out, for this database: it has the next number, holds nothing, has no slot
-  -- in use and has made no step, and one local entry needs no memory.
+  -- A session that the opener has just given out, for this database: it has the next number, holds nothing,
+  -- has no slot in use and has made no step, and one local entry needs no memory.
   pub record IsOpened (opener : OpenerView) (manager : ManagerView) (database : ℕ) (session : SessionView B) : Type 0 where
     pub number : (seat session.board).number ≡ opener.issued
     pub limit : (seat session.board).limit ≡ opener.limit
@@ -103,8 +105,8 @@ module _ {B : Type 0} (seat : B → Seated) (view : B → Account) (stack : B �
     pub no_step : (view session.board).trace ≡ []
     pub rest : IsResting seat view stack session
 
-  -- A session has closed: all that it held was released, in the order of making, and it made no other step. The opener
-  -- has its history, with its number and its trace.
+  -- A session has closed: all that it held was released, in the order of making, and it made no other step.
+  -- The opener has its history, with its number and its trace.
   pub record HasClosed (session : SessionView B) (old new : OpenerView) : Type 0 where
     pub last : Account
     pub left : UseCounts

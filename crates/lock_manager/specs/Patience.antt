@@ -18,8 +18,8 @@ use Rattle.lock_manager.specs.declared.waiting.Looked.TheVariants as looked
 use Rattle.lock_manager.specs.Acquires.{Begins}
 use Rattle.lock_manager.specs.Waiting.{polled_as, Cancels, IsWatch, EndsWait}
 
--- Waits that go on for as long as their caller says. `Says now answer next` is: the caller's word, as it was `now`, was asked once,
--- answered this, and was `next` then.
+-- Waits that go on for as long as their caller says. `Says now answer next` is: the caller's word, as it was
+-- `now`, was asked once, answered this, and was `next` then.
 
 -- What a wait that its session cancels is answered: granted, where the grant was first.
 abbrev pub CancelsAs : ℕ → List TraceEntry → Tag → Mode → Result (Unit {0}) Refusal → List TraceEntry → Type 0
@@ -28,8 +28,8 @@ CancelsAs number before tag mode (Err refusal_.Cancelled) after = Cancels number
 CancelsAs number before tag mode (Err refusal) after = ⊥
 
 module _ {K : Type 0} (Says : K → Bool → K → Type 0) where
-  -- The caller gives up, after a load that showed neither a grant nor that the session was asked to cancel: he says so, and the
-  -- session cancels its wait.
+  -- The caller gives up, after a load that showed neither a grant nor that the session was asked to cancel:
+  -- he says so, and the session cancels its wait.
   pub record GivesUp (last : K) (number : ℕ) (before : List TraceEntry) (tag : Tag) (mode : Mode) (shown : ℕ)
       (result : Result (Unit {0}) Refusal) (after : List TraceEntry) : Type 0 where
     pub still : polled_as shown ≡ looked.Still
@@ -37,8 +37,8 @@ module _ {K : Type 0} (Says : K → Bool → K → Type 0) where
     pub said : Says last false left
     pub cancels : CancelsAs number before tag mode result after
 
-  -- A whole wait: after each look but the last the caller says to go on. It ends by what the last look showed, as every wait
-  -- does, or the caller gives up.
+  -- A whole wait: after each look but the last the caller says to go on. It ends by what the last look
+  -- showed, as every wait does, or the caller gives up.
   pub record WaitsWhile (keep : K) (number : ℕ) (before : List TraceEntry) (tag : Tag) (mode : Mode)
       (result : Result (Unit {0}) Refusal) (after : List TraceEntry) : Type 0 where
     pub looks : List TraceEntry
@@ -57,8 +57,8 @@ module _ {K : Type 0} (Says : K → Bool → K → Type 0) where
     pub starts : Begins Waiting seat owned a uses tag mode (Ok begun.Queued) queued left
     pub waits : WaitsWhile keep seat.number queued.trace tag mode result b.trace
 
-  -- What joins the trace of an acquire that waits for as long as its caller says, by its answer: it is answered at once as one that may wait, and the caller
-  -- is asked nothing, or after its wait.
+  -- What joins the trace of an acquire that waits for as long as its caller says, by its answer: it is
+  -- answered at once as one that may wait, and the caller is asked nothing, or after its wait.
   abbrev pub LocksWhile :
       K → Seated → Owned → Account → UseCounts → Tag → Mode → Result Acquired Refusal → Account → UseCounts → Type 0
   LocksWhile keep seat owned a uses tag mode (Ok acquired.AlreadyHeld) b left =

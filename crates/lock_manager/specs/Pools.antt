@@ -6,8 +6,8 @@ use Rattle.shared_rule.specs.Quiet.{Quiet}
 use Rattle.lock_manager.specs.Sessions.{SessionView}
 use Rattle.lock_manager.specs.Reuse.{ServesNext}
 
--- What contracts see of a pool of sessions: those that nobody has, and of each number that it has room for how often its session was
--- given back.
+-- What contracts see of a pool of sessions: those that nobody has, and of each number that it has room for
+-- how often its session was given back.
 pub record PoolView (B : Type 0) : Type 0 where
   pub free : List (SessionView B)
   pub lives : List ℕ
@@ -32,13 +32,15 @@ life_of lives number = slice_index_or lives number 0
 abbrev pub lives_after : List ℕ → ℕ → List ℕ
 lives_after lives number = slice_set lives number ((life_of lives number + 1) % 2 ^ 64)
 
--- Of the first of these sessions, as many as `bound` says, none has a lower number than the one at this place.
+-- Of the first of these sessions, as many as `bound` says, none has a lower number than the one at this
+-- place.
 abbrev pub IsLowestBelow : {B : Type 0} → (B → Seated) → List (SessionView B) → ℕ → ℕ → Type 0
 IsLowestBelow {B} seat free bound place =
     (lowest session : SessionView B) (other : ℕ) → slice_get free place ≡ Some lowest → other < bound
     → slice_get free other ≡ Some session → (seat lowest.board).number ≤ (seat session.board).number
 
--- The pool has lent the session with the lowest number of those that nobody has, which serves this database from then on.
+-- The pool has lent the session with the lowest number of those that nobody has, which serves this database
+-- from then on.
 pub record LendsLowest {B : Type 0} (seat : B → Seated) (view : B → Account) (stack : B → Stack) (quiet : B → List Quiet)
     (database : ℕ) (old new : PoolView B) (session : SessionView B) : Type 0 where
   pub place : ℕ
@@ -48,7 +50,8 @@ pub record LendsLowest {B : Type 0} (seat : B → Seated) (view : B → Account)
   pub next : ServesNext seat view stack quiet database lent session
   pub pool : new ≡ record old { free = remove old.free place }
 
--- The session was given back: all that it held is released, and it is the last of those that nobody has, in another life.
+-- The session was given back: all that it held is released, and it is the last of those that nobody has, in
+-- another life.
 pub record TakesIn {B : Type 0} (seat : B → Seated) (view : B → Account) (stack : B → Stack) (quiet : B → List Quiet)
     (session : SessionView B) (old new : PoolView B) : Type 0 where
   pub rests : SessionView B

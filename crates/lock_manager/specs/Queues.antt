@@ -10,7 +10,8 @@ use Rattle.wait_queue.specs.Queues.{blockers_in}
 
 -- Looks at an object's queue, as the session's trace has them.
 
--- One episode in the object's partition, which leaves the content as it was taken, shows something of that content.
+-- One episode in the object's partition, which leaves the content as it was taken, shows something of that
+-- content.
 pub record LooksAt (Shows : Content → Type 0) (before : List TraceEntry) (tag : Tag) (after : List TraceEntry) : Type 0 where
   pub taken : Content
   pub shown : Shows taken

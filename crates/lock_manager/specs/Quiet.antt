@@ -12,8 +12,8 @@ use Rattle.fast_path.specs.Quiet.{quiet_turns, quiet_ungranting}
 use Rattle.lock_manager.specs.Requests.{TriesSlot}
 use Rattle.lock_manager.specs.Releases.{Releases}
 
--- The quiet steps of a session's calls, with those before them, the last one first. `a` and `uses` are the account and the use counts
--- before a call.
+-- The quiet steps of a session's calls, with those before them, the last one first. `a` and `uses` are the
+-- account and the use counts before a call.
 
 -- ---- acquires
 
@@ -22,7 +22,8 @@ abbrev pub QuietOfTry : ℕ → Tag → Mode → List Quiet → List Quiet → T
 QuietOfTry number tag mode before after =
     (after ≡ TakesSlots number ∷ before) ⊎ (after ≡ SetsSlot tag mode ∷ TakesSlots number ∷ before)
 
--- A request for a strong mode counts that mode, and takes the lock of each session's slots once; where memory runs out, of those as far as one.
+-- A request for a strong mode counts that mode, and takes the lock of each session's slots once; where memory
+-- runs out, of those as far as one.
 pub record QuietOfStrong (limit : ℕ) (tag : Tag) (mode : Mode) (before after : List Quiet) : Type 0 where
   pub strong : is_strong_on tag mode ≡ true
   pub reached : ℕ
@@ -36,7 +37,8 @@ pub record QuietOfTable (groups : ℕ) (a : Account) (uses : UseCounts) (tag : T
   pub not_tried : (is_eligible_for a.fast.database tag mode ≡ false) ⊎ IsFull groups uses tag
   pub quiet : after ≡ before
 
--- The quiet steps of a request: those of a strong mode, those of a try in a slot, or none where the request goes by the table alone.
+-- The quiet steps of a request: those of a strong mode, those of a try in a slot, or none where the request
+-- goes by the table alone.
 pub data QuietOfRequest (seat : Seated) (a : Account) (uses : UseCounts) (tag : Tag) (mode : Mode) (before after : List Quiet) :
     Type 0 where
   OfStrong : QuietOfStrong seat.limit tag mode before after → QuietOfRequest seat a uses tag mode before after

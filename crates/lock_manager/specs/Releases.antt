@@ -32,8 +32,8 @@ pub record IsLastTaken (stack : Stack) (partition : ℕ) : Type 0 where
   pub parts : stack.parts ≡ partition ∷ others
   pub none_owed : stack.owed ≡ []
 
--- The sessions whom a move in a partition in hand lets go, each once, by this content: they are still to be told. Each is one of those
--- that there can be.
+-- The sessions whom a move in a partition in hand lets go, each once, by this content: they are still to be
+-- told. Each is one of those that there can be.
 pub record Wakens (seat : Seated) (a : Account) (partition : ℕ) (done : Move) (woken : List (ℕ × Mode))
     (now : Content) : Type 0 where
   pub mine : InHand
@@ -48,8 +48,8 @@ abbrev pub account_marked : Account → ℕ → Move → Content → List (ℕ �
 account_marked a partition done now rest =
     account_marking a partition (in_hand (a.hand partition)) now done done (is_among (sessions_told rest))
 
--- How far the telling has come from the one account to the other: nobody is marked yet, and the first mark is to make
--- the move; or the move stands recorded, and these are left.
+-- How far the telling has come from the one account to the other: nobody is marked yet, and the first mark is
+-- to make the move; or the move stands recorded, and these are left.
 abbrev pub IsMarking : Account → ℕ → Move → Content → List (ℕ × Mode) → List (ℕ × Mode) → Account → Type 0
 IsMarking a partition done now woken rest b =
     ((rest ≡ woken) × (woken ≢ []) × (b ≡ a)) ⊎ (b ≡ account_marked a partition done now rest)
@@ -61,8 +61,8 @@ pub record Tells (seat : Seated) (a : Account) (partition : ℕ) (done : Move) (
   pub wakens : Wakens seat from partition done woken now
   pub so_far : IsMarking from partition done now woken woken a
 
--- The session may put a partition in hand after this move, whose wakeup of the object's queue is still to come, whomever it
--- grants: it puts it where that is nobody, and else tells them.
+-- The session may put a partition in hand after this move, whose wakeup of the object's queue is still to
+-- come, whomever it grants: it puts it where that is nobody, and else tells them.
 pub record MayWake (seat : Seated) (a : Account) (partition : ℕ) (done : Move) (tag : Tag) (before : Content) : Type 0 where
   pub nobody : (after : Content) → Wakes before tag [] after → (mine : InHand) × MayPutPart seat.limit seat.number a partition mine done after
   pub some :
@@ -76,8 +76,9 @@ pub record WakesAndPuts (a : Account) (partition : ℕ) (done : Move) (tag : Tag
   pub wakes : Wakes before tag granted after
   pub account : b ≡ account_putting a partition (taken_of (a.hand partition)) after done
 
--- A hold is taken out of the object's partition: the content is put once the hold is gone and who may go then is granted, and the account is the one that the
--- contents taken and put lead to. The content taken has each own hold of its partition that is in no slot.
+-- A hold is taken out of the object's partition: the content is put once the hold is gone and who may go then
+-- is granted, and the account is the one that the contents taken and put lead to. The content taken has each
+-- own hold of its partition that is in no slot.
 pub record TakesHoldOut (leads_to : Content → Content → Account) (number : ℕ) (a : Account) (tag : Tag) (mode : Mode) (b : Account) : Type 0 where
   pub taken : Content
   pub put : Content
@@ -91,7 +92,8 @@ abbrev pub ReleasesInPart : ℕ → Account → Tag → Mode → Account → Typ
 ReleasesInPart number a tag mode b =
     TakesHoldOut (λ taken put. account_episode a (partition_of tag) taken put (Release tag mode)) number a tag mode b
 
--- ---- the whole release: `a` and `uses` are the account and the use counts before it, `b` and `left` those after it
+-- ---- the whole release: `a` and `uses` are the account and the use counts before it, `b` and `left` those
+-- after it
 
 -- what is counted once the mode is released
 abbrev pub counted_released : List Counted → Tag → Mode → List Counted
@@ -105,25 +107,28 @@ account_released a tag mode remembered trace = record a {
   trace = trace;
 }
 
--- The whole release of a hold that stands in the table: once that episode is made a strong mode is counted no more.
+-- The whole release of a hold that stands in the table: once that episode is made a strong mode is counted no
+-- more.
 abbrev pub ReleasesHold : ℕ → Account → Tag → Mode → Account → Type 0
 ReleasesHold number a tag mode b =
     TakesHoldOut (λ taken put. account_released a tag mode a.fast.remembered
     (a.trace ++ Took (partition_of tag) taken ∷ Episode (partition_of tag) taken put ∷ [])) number a tag mode b
 
--- The session looks in its slots: the mode on the object may be in one of them, and by the use count of the relation's group
--- one of it is in use.
+-- The session looks in its slots: the mode on the object may be in one of them, and by the use count of the
+-- relation's group one of it is in use.
 pub record LooksInSlots (groups : ℕ) (a : Account) (uses : UseCounts) (tag : Tag) (mode : Mode) : Type 0 where
   pub eligible : is_eligible_for a.fast.database tag mode ≡ true
   pub some : count_in uses (group_of_tag groups tag) ≢ 0
 
--- The session looks in its slots, and clears the mode in the slot that has it. There is no episode, nor any other step.
+-- The session looks in its slots, and clears the mode in the slot that has it. There is no episode, nor any
+-- other step.
 pub record ReleasesSlot (groups number : ℕ) (a : Account) (uses : UseCounts) (tag : Tag) (mode : Mode) (b : Account)
     (left : UseCounts) : Type 0 where
   pub looks : LooksInSlots groups a uses tag mode
   pub cleared : ClearsSlot groups number a uses tag mode b left
 
--- The session looks in its slots, and finds the hold in none of the group's sixteen: it was moved to the table, or granted there.
+-- The session looks in its slots, and finds the hold in none of the group's sixteen: it was moved to the
+-- table, or granted there.
 pub record FindsNone (groups number : ℕ) (a : Account) (uses : UseCounts) (tag : Tag) (mode : Mode)
     (loads : List TraceEntry) (left : UseCounts) : Type 0 where
   pub looks : LooksInSlots groups a uses tag mode
@@ -139,9 +144,9 @@ pub record LooksNowhere (groups : ℕ) (a : Account) (uses : UseCounts) (tag : T
   pub no_step : loads ≡ []
   pub same : left ≡ uses
 
--- One episode in the object's partition releases the hold: it is gone, and who may go then is granted. The content taken
--- has each own hold of the partition that is in no slot. Before it stands the look at the slots, if there was one. No
--- other step joins the trace.
+-- One episode in the object's partition releases the hold: it is gone, and who may go then is granted. The
+-- content taken has each own hold of the partition that is in no slot. Before it stands the look at the
+-- slots, if there was one. No other step joins the trace.
 pub record ReleasesInTable (groups number : ℕ) (a : Account) (uses : UseCounts) (tag : Tag) (mode : Mode) (b : Account)
     (left : UseCounts) : Type 0 where
   pub loads : List TraceEntry

@@ -25,13 +25,13 @@ use Rattle.fast_path.specs.Transfers.{AreTurns, CutsShort}
 use Rattle.shared_rule.specs.Boards.{Seated}
 use Rattle.shared_rule.specs.Episodes.{account_episode}
 
--- A request for a mode that the session hasn't, as its trace has it. `a` and `uses` are the account and the use counts
--- before it, `b` and `left` those after it.
+-- A request for a mode that the session hasn't, as its trace has it. `a` and `uses` are the account and the
+-- use counts before it, `b` and `left` those after it.
 
 -- ---- by the fast path
 
--- The fast path is tried: the mode on the object may go by a slot of the session, and by the use count of the relation's group
--- not all sixteen of it are in use.
+-- The fast path is tried: the mode on the object may go by a slot of the session, and by the use count of the
+-- relation's group not all sixteen of it are in use.
 pub record TriesSlot (groups : ℕ) (a : Account) (uses : UseCounts) (tag : Tag) (mode : Mode) : Type 0 where
   pub eligible : is_eligible_for a.fast.database tag mode ≡ true
   pub room : HasRoom groups uses tag
@@ -52,19 +52,22 @@ pub record FindsStrong (groups : ℕ) (a : Account) (uses : UseCounts) (tag : Ta
   pub counted : shown ≢ 0
   pub load : steps ≡ Loaded (Strong (index_of tag)) shown ∷ []
 
--- The fast path isn't tried, as the mode may not go by a slot or sixteen of the group are used, and nothing goes before.
+-- The fast path isn't tried, as the mode may not go by a slot or sixteen of the group are used, and nothing
+-- goes before.
 pub record GoesByTable (groups : ℕ) (a : Account) (uses : UseCounts) (tag : Tag) (mode : Mode)
     (steps : List TraceEntry) : Type 0 where
   pub weak : is_strong_on tag mode ≡ false
   pub not_tried : (is_eligible_for a.fast.database tag mode ≡ false) ⊎ IsFull groups uses tag
   pub no_step : steps ≡ []
 
--- The mode is strong, and goes past each session in its turn, which moves what stands in its way to the table.
+-- The mode is strong, and goes past each session in its turn, which moves what stands in its way to the
+-- table.
 pub record MovesSlots (groups limit : ℕ) (tag : Tag) (mode : Mode) (steps : List TraceEntry) : Type 0 where
   pub strong : is_strong_on tag mode ≡ true
   pub turns : AreTurns groups limit tag steps
 
--- What goes before the episode: nothing, the load that finds a strong lock counted, or the turns of a strong mode.
+-- What goes before the episode: nothing, the load that finds a strong lock counted, or the turns of a strong
+-- mode.
 abbrev pub LeadsToTable : ℕ → ℕ → Account → UseCounts → Tag → Mode → List TraceEntry → Type 0
 LeadsToTable groups limit a uses tag mode steps =
     GoesByTable groups a uses tag mode steps
@@ -72,7 +75,8 @@ LeadsToTable groups limit a uses tag mode steps =
 
 -- ---- the episode that decides
 
--- The part that the last episode of this trace put was the one of the object, and room had been made in it for the session's request.
+-- The part that the last episode of this trace put was the one of the object, and room had been made in it
+-- for the session's request.
 pub record HadRoom {T : Type 0} (content : T → Content) (prepared : T → Option Request) (session : ℕ) (tag : Tag) (mode : Mode)
     (trace : List TraceEntry) : Type 0 where
   pub part : T
@@ -81,7 +85,8 @@ pub record HadRoom {T : Type 0} (content : T → Content) (prepared : T → Opti
   pub taken : Content
   pub put : trace ≡ before ++ Episode (partition_of tag) taken (content part) ∷ []
 
--- the account of a session that waits for the mode on the object, with the modes of it that it has in the table
+-- the account of a session that waits for the mode on the object, with the modes of it that it has in the
+-- table
 abbrev pub account_awaiting : Account → Tag → Mode → (Mode → Bool) → Account
 account_awaiting a tag mode held = record a {
   awaited = Some (record { tag = tag; mode = mode; held = held });
@@ -96,9 +101,9 @@ account_decided number a tag mode taken put (Ok decision.Queued) =
     account_awaiting (account_episode a (partition_of tag) taken put move_.Keep) tag mode (taken.holds number tag)
 account_decided number a tag mode taken put (Err refusal) = account_episode a (partition_of tag) taken put move_.Keep
 
--- The episode that decides: the content put is the one taken with one more hold or wait, as was decided by it, and
--- after a refusal as it was. The content taken has each own hold of its partition that is in no slot, and no wait of
--- the session's on the object.
+-- The episode that decides: the content put is the one taken with one more hold or wait, as was decided by
+-- it, and after a refusal as it was. The content taken has each own hold of its partition that is in no slot,
+-- and no wait of the session's on the object.
 pub record DecidesInPart (kind : Kind) (number : ℕ) (a : Account) (tag : Tag) (mode : Mode)
     (result : Result Decision Refusal) (b : Account) : Type 0 where
   pub taken : Content
@@ -110,11 +115,11 @@ pub record DecidesInPart (kind : Kind) (number : ℕ) (a : Account) (tag : Tag) 
   pub kept : OnErr result (put ≡ taken)
   pub account : b ≡ account_decided number a tag mode taken put result
 
--- The request has one episode, in the object's partition, and its answer is that of the content taken: where it is
--- granted the content put has the hold, and where it is queued the wait; else that is put as it was, and the refusal
--- names what is in the way there, or memory. The content taken has each own hold of the partition that is in no slot of
--- the session, and no wait of the session's on the object. Before it stands what led to the table. No other step joins
--- the trace.
+-- The request has one episode, in the object's partition, and its answer is that of the content taken: where
+-- it is granted the content put has the hold, and where it is queued the wait; else that is put as it was,
+-- and the refusal names what is in the way there, or memory. The content taken has each own hold of the
+-- partition that is in no slot of the session, and no wait of the session's on the object. Before it stands
+-- what led to the table. No other step joins the trace.
 pub record Decides (kind : Kind) (seat : Seated) (a : Account) (uses : UseCounts) (tag : Tag) (mode : Mode)
     (result : Result Decision Refusal) (b : Account) (left : UseCounts) : Type 0 where
   pub steps : List TraceEntry
@@ -129,8 +134,8 @@ pub record Decides (kind : Kind) (seat : Seated) (a : Account) (uses : UseCounts
   pub trace : b.trace ≡ a.trace ++ steps ++ Took (partition_of tag) taken ∷ Episode (partition_of tag) taken put ∷ []
   pub same : left ≡ uses
 
--- The mode is strong, and memory runs out in the turn of a session, before all is moved that stands in its way:
--- there is no episode that decides.
+-- The mode is strong, and memory runs out in the turn of a session, before all is moved that stands in its
+-- way: there is no episode that decides.
 pub record StopsMoving (groups limit : ℕ) (a : Account) (uses : UseCounts) (tag : Tag) (mode : Mode) (b : Account)
     (left : UseCounts) : Type 0 where
   pub strong : is_strong_on tag mode ≡ true
@@ -141,8 +146,8 @@ pub record StopsMoving (groups limit : ℕ) (a : Account) (uses : UseCounts) (ta
 
 -- ---- the whole request
 
--- What joins the trace of a request, by its answer: it is granted in a slot, or decided in the table, or stopped on
--- the way.
+-- What joins the trace of a request, by its answer: it is granted in a slot, or decided in the table, or
+-- stopped on the way.
 abbrev pub Requests :
     Kind → Seated → Account → UseCounts → Tag → Mode → Result Decision Refusal → Account → UseCounts → Type 0
 Requests kind seat a uses tag mode (Ok decision.Granted) b left =
@@ -177,7 +182,8 @@ account_queued limit a tag mode held remembered trace = record a {
   trace = trace;
 }
 
--- What a request makes of the account, by its answer, but for what the session remembers of its slots, and the trace.
+-- What a request makes of the account, by its answer, but for what the session remembers of its slots, and
+-- the trace.
 abbrev pub IsRequested : ℕ → Account → Tag → Mode → Result Decision Refusal → Account → Type 0
 IsRequested limit a tag mode (Ok decision.Granted) b = b ≡ account_granted limit a tag mode b.fast.remembered b.trace
 IsRequested limit a tag mode (Ok decision.Queued) b =

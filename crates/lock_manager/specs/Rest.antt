@@ -18,8 +18,9 @@ counted_for limit entries =
     map (λ entry. record { tag = entry.tag; mode = entry.mode; position = limit })
     (filter (λ entry. is_strong_on entry.tag entry.mode) entries)
 
--- The account of a session of this database that has these entries and is in no call: it holds what it has entries for, in its slots or in the table, has
--- counted the strong locks of these, remembers its slots as showing these words, waits for nothing, and has no word in hand.
+-- The account of a session of this database that has these entries and is in no call: it holds what it has
+-- entries for, in its slots or in the table, has counted the strong locks of these, remembers its slots as
+-- showing these words, waits for nothing, and has no word in hand.
 abbrev pub account_at_rest : ℕ → ℕ → (ℕ → ℕ) → List Entry → List TraceEntry → Account
 account_at_rest limit database remembered entries trace = record {
   own = has_entry entries;
@@ -39,8 +40,8 @@ account_at_rest limit database remembered entries trace = record {
   trace = trace;
 }
 
--- As the session remembers its slots, each in use is of its relation's group, and each group's use count is not below the
--- number of its slots in use, and not above how many it has.
+-- As the session remembers its slots, each in use is of its relation's group, and each group's use count is
+-- not below the number of its slots in use, and not above how many it has.
 pub record IsUseCount (groups : ℕ) (a : Account) (uses : UseCounts) : Type 0 where
   pub in_groups : AreInGroups groups a.fast.remembered
   pub enough : AreCounted a.fast.remembered (count_in uses)
@@ -53,8 +54,8 @@ pub record IsAtRest (groups limit database : ℕ) (uses : UseCounts) (a : Accoun
   pub use_count : IsUseCount groups a uses
   pub nothing_left : stack ≡ nothing_due
 
--- What a step in the middle of a call of a session that doesn't wait may count on: the session has no word in hand, shares none of slots, owes nobody a wake,
--- has read no counter as 0, and has no wait.
+-- What a step in the middle of a call of a session that doesn't wait may count on: the session has no word in
+-- hand, shares none of slots, owes nobody a wake, has read no counter as 0, and has no wait.
 pub record IsIdle (a : Account) (stack : Stack) : Type 0 where
   pub no_wait : a.awaited ≡ None
   pub no_content : a.hand ≡ (λ _. None)

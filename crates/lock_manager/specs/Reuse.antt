@@ -16,8 +16,9 @@ use Rattle.lock_manager.specs.Sessions.{SessionView, IsResting}
 abbrev pub session_of : {B : Type 0} → B → Own → SessionView B
 session_of board own = record { board = board; database = own.database; uses = own.uses; owned = own.locals }
 
--- All that it held was released, in the order of making, then its database was stored, and it made no other step. It owns nothing, at the
--- first level of a transaction, and has its number, its place at the table, its limit of local entries and its slots for them as before.
+-- All that it held was released, in the order of making, then its database was stored, and it made no other
+-- step. It owns nothing, at the first level of a transaction, and has its number, its place at the table, its
+-- limit of local entries and its slots for them as before.
 pub record ServesNext {B : Type 0} (seat : B → Seated) (view : B → Account) (stack : B → Stack) (quiet : B → List Quiet)
     (database : ℕ) (session next : SessionView B) : Type 0 where
   pub last : Account

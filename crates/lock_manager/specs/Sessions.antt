@@ -12,14 +12,16 @@ use Rattle.fast_path.specs.declared.use_counts.UseCounts.{UseCounts}
 use Rattle.lock_manager.specs.declared.sessions.Own.{Own}
 use Rattle.lock_manager.specs.Rest.{IsAtRest}
 
--- What contracts see of a session: its board, its database, the use counts of its fast-path slots, and what it owns.
+-- What contracts see of a session: its board, its database, the use counts of its fast-path slots, and what
+-- it owns.
 pub record SessionView (B : Type 0) : Type 0 where
   pub board : B
   pub database : ℕ
   pub uses : UseCounts
   pub owned : Owned
 
--- A call keeps whose session it is made on: its seat, its database, and how many entries it may have. What it owns is well owned after it.
+-- A call keeps whose session it is made on: its seat, its database, and how many entries it may have. What it
+-- owns is well owned after it.
 pub record KeepsOwn (seat : Seated) (old : Own) (seat_after : Seated) (new : Own) : Type 0 where
   pub seat_ : seat_after ≡ seat
   pub database : new.database ≡ old.database

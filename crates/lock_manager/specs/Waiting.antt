@@ -29,8 +29,9 @@ use Rattle.lock_manager.specs.Requests.{counted_granted}
 
 -- ---- a session that waits
 
--- The account of a session that waits for the mode on the object, and is in no call: it is as one at rest, but for
--- its wait, which was joined with the modes of the object that it has in the table, and for the count of a strong mode.
+-- The account of a session that waits for the mode on the object, and is in no call: it is as one at rest,
+-- but for its wait, which was joined with the modes of the object that it has in the table, and for the count
+-- of a strong mode.
 abbrev pub account_in_wait : ℕ → ℕ → (ℕ → ℕ) → List Entry → Tag → Mode → (Mode → Bool) → List TraceEntry → Account
 account_in_wait limit database remembered entries tag mode held trace =
     record (account_at_rest limit database remembered entries trace) {
@@ -49,7 +50,8 @@ pub record IsWaiting (groups limit database : ℕ) (uses : UseCounts) (a : Accou
   pub no_entry : has_entry entries tag mode ≡ false
   pub nothing_left : stack ≡ nothing_due
 
--- The session that waits has loaded its wait word, which showed this: it has seen whether its wait was granted.
+-- The session that waits has loaded its wait word, which showed this: it has seen whether its wait was
+-- granted.
 pub record HasLooked (groups limit database : ℕ) (uses : UseCounts) (a : Account) (stack : Stack) (entries : List Entry)
     (tag : Tag) (mode : Mode) (shown : ℕ) : Type 0 where
   pub held : Mode → Bool
@@ -60,7 +62,8 @@ pub record HasLooked (groups limit database : ℕ) (uses : UseCounts) (a : Accou
   pub no_entry : has_entry entries tag mode ≡ false
   pub nothing_left : stack ≡ nothing_due
 
--- What a step in the middle of a call of a session that waits may count on: the session has this wait, has not seen it granted, and has no word in hand.
+-- What a step in the middle of a call of a session that waits may count on: the session has this wait, has
+-- not seen it granted, and has no word in hand.
 pub record IsInWait (a : Account) (stack : Stack) (tag : Tag) (mode : Mode) : Type 0 where
   pub held : Mode → Bool
   pub waits : a.awaited ≡ Some (record { tag = tag; mode = mode; held = held })
@@ -70,19 +73,21 @@ pub record IsInWait (a : Account) (stack : Stack) (tag : Tag) (mode : Mode) : Ty
 
 -- ---- asking and looking
 
--- The session asks another to cancel its wait, whose wait word showed this before, and says whether it waited.
+-- The session asks another to cancel its wait, whose wait word showed this before, and says whether it
+-- waited.
 pub record Asks (a : Account) (other : ℕ) (answer : Asked) (b : Account) : Type 0 where
   pub shown : ℕ
   pub answered : (answer ≡ asked.Waiting) ↔ (wait_state shown ≡ 1)
   pub account : b ≡ account_tracing a (AskedToCancel other shown)
 
--- The session asks the session `other` to cancel its wait, where that number is below the limit. Where it is not, no session has that number: the answer is
--- that it doesn't wait, and no step is made.
+-- The session asks the session `other` to cancel its wait, where that number is below the limit. Where it is
+-- not, no session has that number: the answer is that it doesn't wait, and no step is made.
 pub record AsksOneOf (limit : ℕ) (a : Account) (other : ℕ) (answer : Asked) (b : Account) : Type 0 where
   pub one : other < limit → Asks a other answer b
   pub none : limit ≤ other → (answer ≡ asked.NotWaiting) × (b ≡ a)
 
--- One episode in the object's partition, which leaves the content as it was taken, shows whether somebody awaits a mode in conflict with this one.
+-- One episode in the object's partition, which leaves the content as it was taken, shows whether somebody
+-- awaits a mode in conflict with this one.
 pub record LooksForWaiters (before : List TraceEntry) (tag : Tag) (mode : Mode) (is_awaited : Bool)
     (after : List TraceEntry) : Type 0 where
   pub taken : Content
@@ -103,7 +108,8 @@ pub record Polls (number : ℕ) (before : List TraceEntry) (answer : Looked) (af
 
 -- ---- taking a wait out
 
--- One episode in the object's partition takes the session's wait out of the queue, and grants who may go then.
+-- One episode in the object's partition takes the session's wait out of the queue, and grants who may go
+-- then.
 pub record Leaves (number : ℕ) (before : List TraceEntry) (tag : Tag) (after : List TraceEntry) : Type 0 where
   pub taken : Content
   pub put : Content
@@ -111,8 +117,8 @@ pub record Leaves (number : ℕ) (before : List TraceEntry) (tag : Tag) (after :
   pub moved : Moves taken number (Leave tag) granted put
   pub trace : after ≡ before ++ Took (partition_of tag) taken ∷ Episode (partition_of tag) taken put ∷ []
 
--- One episode finds that it was granted: the content, which is left as it was taken, has the hold, and no wait of the
--- session.
+-- One episode finds that it was granted: the content, which is left as it was taken, has the hold, and no
+-- wait of the session.
 pub record FindsGrant (number : ℕ) (before : List TraceEntry) (tag : Tag) (mode : Mode) (after : List TraceEntry) :
     Type 0 where
   pub taken : Content
@@ -137,14 +143,15 @@ account_cancelled a tag mode true trace = record a {
 
 -- ---- waiting
 
--- These are loads of the session's own wait word that show neither a grant nor that the session was asked to cancel.
+-- These are loads of the session's own wait word that show neither a grant nor that the session was asked to
+-- cancel.
 abbrev pub IsWatch : ℕ → List TraceEntry → Type 0
 IsWatch number [] = Unit {0}
 IsWatch number (entry ∷ entries) =
     (shown : ℕ) × (entry ≡ Loaded (Wait number) shown) × (polled_as shown ≡ looked.Still) × IsWatch number entries
 
--- How a wait ends, after the load that showed this: granted, or asked to cancel, which the session does itself; then
--- it may find that the grant was first.
+-- How a wait ends, after the load that showed this: granted, or asked to cancel, which the session does
+-- itself; then it may find that the grant was first.
 abbrev pub EndsWait : ℕ → List TraceEntry → Tag → Mode → ℕ → Result (Unit {0}) Refusal → List TraceEntry → Type 0
 EndsWait number before tag mode shown (Ok done) after =
     ((polled_as shown ≡ looked.Granted) × (after ≡ before))

@@ -31,8 +31,8 @@ use Rattle.lock_manager.specs.Waiting.{IsWaiting, Waits}
 
 -- Sessions that wait, and answers with which a session comes back.
 
--- What contracts see of a session that waits: its board, its database, the use counts of its fast-path slots, what it
--- owns, and what it waits for.
+-- What contracts see of a session that waits: its board, its database, the use counts of its fast-path slots,
+-- what it owns, and what it waits for.
 pub record WaitingView (B : Type 0) : Type 0 where
   pub board : B
   pub database : ℕ
@@ -175,7 +175,8 @@ pub record QueuesAndWaits (seat : Seated) (owned : Owned) (a : Account) (uses : 
   pub starts : Begins Waiting seat owned a uses tag mode (Ok begun.Queued) queued left
   pub waits : Waits seat.number queued.trace tag mode result b.trace
 
--- What joins the trace of an acquire that waits as long as it must, by its answer: it is answered at once as one that may wait, or after its wait.
+-- What joins the trace of an acquire that waits as long as it must, by its answer: it is answered at once as
+-- one that may wait, or after its wait.
 abbrev pub Locks :
     Seated → Owned → Account → UseCounts → Tag → Mode → Result Acquired Refusal → Account → UseCounts → Type 0
 Locks seat owned a uses tag mode (Ok acquired.AlreadyHeld) b left =

@@ -17,9 +17,9 @@ use std::alloc::Global;
 use std::sync::Wait;
 
 impl<T: PartTable, B: Board<T>> OwnSession<T, B> {
-    /// A session of `database` over `board`, on which nothing was done: for tests of a session's calls over boards
-    /// of their own, since a manager's sessions are opened by its opener. Where memory, by `alloc`, runs out the
-    /// board comes back.
+    /// A session of `database` over `board`, on which nothing was done: for tests of a session's calls over
+    /// boards of their own, since a manager's sessions are opened by its opener. Where memory, by `alloc`,
+    /// runs out the board comes back.
     pub fn over(alloc: Global, board: B, database: u32, max_local: u32) -> Result<Self, B>
         requires limit { (B.seat board).limit ≤ most_sessions }
         requires blank { B.view board ≡ blank_account }
@@ -42,7 +42,8 @@ impl<T: PartTable, B: Board<T>> OwnSession<T, B> {
         }
     }
 
-    /// Ends a session over a board for tests: all that the session holds is released, in the order of making, and its board comes back.
+    /// Ends a session over a board for tests: all that the session holds is released, in the order of making,
+    /// and its board comes back.
     pub fn into_board<R: Wait>(self, rt: &R) -> B
         ensures seat { B.seat result ≡ B.seat self.board }
         ensures stack { B.stack result ≡ nothing_due }

@@ -18,17 +18,20 @@ use shared_rule::{Absent, Audit, Board, SeatBoard, SeatOpener, SharedWords};
 use std::sync::Wait;
 
 impl Manager {
-    /// Counts what is in the manager while nobody else can change it, since all of its open `sessions` and its `opener` are lent: `fast` is how many modes
-    /// the fast-path slots show, `table` how many holds the contents of all partitions have, `strong` the sum of the strong lock counters. `fast + table` is
-    /// how many local entries the sessions have, and `strong` how many of these entries are of strong modes.
+    /// Counts what is in the manager while nobody else can change it, since all of its open `sessions` and
+    /// its `opener` are lent: `fast` is how many modes the fast-path slots show, `table` how many holds the
+    /// contents of all partitions have, `strong` the sum of the strong lock counters. `fast + table` is how
+    /// many local entries the sessions have, and `strong` how many of these entries are of strong modes.
     ///
-    /// Call it with a list of all sessions that are open, in any order, as `manager.audit(rt, &mut opener, &mut sessions)`. The call takes the sessions out
-    /// of the list and puts them back, so a slice won't do. The first session makes all steps: it loads the counters, takes the partitions in rising order,
-    /// loads with all in hand each slot of each session that there can be, and puts the partitions back. With no session the call makes no step and counts
-    /// nothing.
+    /// Call it with a list of all sessions that are open, in any order, as
+    /// `manager.audit(rt, &mut opener, &mut sessions)`. The call takes the sessions out of the list and puts
+    /// them back, so a slice won't do. The first session makes all steps: it loads the counters, takes the
+    /// partitions in rising order, loads with all in hand each slot of each session that there can be, and
+    /// puts the partitions back. With no session the call makes no step and counts nothing.
     ///
-    /// Memory is taken for the rows of the partitions alone. Where that memory runs out the audit is refused; in that case too opener, sessions and table are
-    /// as before, but for the first session's trace. PostgreSQL has no such call; nearest is a sum over the view `pg_locks`.
+    /// Memory is taken for the rows of the partitions alone. Where that memory runs out the audit is refused;
+    /// in that case too opener, sessions and table are as before, but for the first session's trace.
+    /// PostgreSQL has no such call; nearest is a sum over the view `pg_locks`.
     pub fn audit<'a, R: Wait>(
         &self,
         rt: &R,

@@ -27,7 +27,8 @@ pub struct Blocked {
     pub blockers: Vec<Blocker>,
 }
 
-/// Appends to `found` the waits in `content`, each with the sessions in its way. Refused only where memory, by `alloc`, runs out.
+/// Appends to `found` the waits in `content`, each with the sessions in its way. Refused only where memory,
+/// by `alloc`, runs out.
 fn append_blocked<T: PartTable>(
     alloc: Global,
     content: &T,
@@ -51,8 +52,9 @@ fn append_blocked<T: PartTable>(
     Ok(())
 }
 
-/// Appends to `found` the waits in the partitions from `part` on, each with the sessions in its way. All these partitions are taken before the first one is
-/// put back, and all are put back, also where memory, by `alloc`, runs out.
+/// Appends to `found` the waits in the partitions from `part` on, each with the sessions in its way. All
+/// these partitions are taken before the first one is put back, and all are put back, also where memory, by
+/// `alloc`, runs out.
 fn blocked_from<T: PartTable, B: Board<T>, R: Wait>(
     rt: &R,
     board: &mut B,
@@ -82,7 +84,8 @@ fn blocked_from<T: PartTable, B: Board<T>, R: Wait>(
     others
 }
 
-/// All waits at one moment, as the session on `board`, which owns `own`, sees them: each with the sessions in its way.
+/// All waits at one moment, as the session on `board`, which owns `own`, sees them: each with the sessions in
+/// its way.
 fn list_blocked<T: PartTable, B: Board<T>, R: Wait>(
     rt: &R,
     board: &mut B,
@@ -106,9 +109,11 @@ fn list_blocked<T: PartTable, B: Board<T>, R: Wait>(
 }
 
 impl<T: PartTable, B: Board<T>> OwnSession<T, B> {
-    /// All sessions that wait, at one moment, at which the session has all partitions in hand, each with all sessions that are in its way
-    /// (`GetLockStatusData` and `GetBlockerStatusData` in lock.c in one): by partition, and within a partition in the order of a listing. The answer shows
-    /// who waits for whom, over all objects; a cycle in it is a deadlock. Only the lists of the answer take memory; refused where that runs out.
+    /// All sessions that wait, at one moment, at which the session has all partitions in hand, each with all
+    /// sessions that are in its way (`GetLockStatusData` and `GetBlockerStatusData` in lock.c in one): by
+    /// partition, and within a partition in the order of a listing. The answer shows who waits for whom, over
+    /// all objects; a cycle in it is a deadlock. Only the lists of the answer take memory; refused where that
+    /// runs out.
     pub fn waits<R: Wait>(&mut self, rt: &R) -> Result<Vec<Blocked>, Refusal>
         // What the call answers.
         ensures listed { ListsBlocked (B.seat self.old.board).number (B.view self.old.board)

@@ -15,17 +15,21 @@ pub const MOST_GROUPS: u32 = 8;
 /// The sizes of a lock manager.
 #[derive(Clone, Copy, Debug, PartialEq, Eq)]
 pub struct Config {
-    /// How many sessions the manager may open over its life: 1 to 64, or 1 to 1,024 for a manager made by `Manager::for_server` (`max_connections`).
+    /// How many sessions the manager may open over its life: 1 to 64, or 1 to 1,024 for a manager made by
+    /// `Manager::for_server` (`max_connections`).
     pub sessions: u32,
-    /// How many local entries (a mode on an object, in the local lock table) each session may have, 1 to 65,536.
+    /// How many local entries (a mode on an object, in the local lock table) each session may have, 1 to
+    /// 65,536.
     pub max_local: u32,
-    /// How many groups of sixteen fast-path slots each session has, 1 to 8 (`FastPathLockGroupsPerBackend` in proc.h of version 18; version 16 has one).
+    /// How many groups of sixteen fast-path slots each session has, 1 to 8 (`FastPathLockGroupsPerBackend` in
+    /// proc.h of version 18; version 16 has one).
     pub slot_groups: u32,
 }
 
-/// A manager for 64 sessions, with 1,024 local entries and one group of sixteen fast-path slots each, as version 16
-/// has them. A server's `max_connections` is 100 where nothing is set, as `Manager::for_server` allows. Its
-/// `max_locks_per_transaction`, 64, is no limit of a session but an average by which the shared table is sized.
+/// A manager for 64 sessions, with 1,024 local entries and one group of sixteen fast-path slots each, as
+/// version 16 has them. A server's `max_connections` is 100 where nothing is set, as `Manager::for_server`
+/// allows. Its `max_locks_per_transaction`, 64, is no limit of a session but an average by which the shared
+/// table is sized.
 impl Default for Config {
     ghost is_default = { λ config. IsUsual config };
 
@@ -39,21 +43,24 @@ impl Default for Config {
 }
 
 impl Config {
-    /// Whether all numbers of the configuration are in their ranges, so that `Manager::new` doesn't refuse with `BadConfig`.
+    /// Whether all numbers of the configuration are in their ranges, so that `Manager::new` doesn't refuse
+    /// with `BadConfig`.
     pub fn is_in_range(self) -> bool
         ensures { result ≡ is_in_range self }
     {
         self.is_within(USUAL_SESSIONS)
     }
 
-    /// Whether all numbers of the configuration are in the ranges of a server's manager, so that `Manager::for_server` doesn't refuse with `BadConfig`.
+    /// Whether all numbers of the configuration are in the ranges of a server's manager, so that
+    /// `Manager::for_server` doesn't refuse with `BadConfig`.
     pub fn is_in_server_range(self) -> bool
         ensures { result ≡ is_in_server_range self }
     {
         self.is_within(MOST_SESSIONS)
     }
 
-    /// Whether the configuration asks for 1 to `sessions` sessions, and its other numbers are in their ranges.
+    /// Whether the configuration asks for 1 to `sessions` sessions, and its other numbers are in their
+    /// ranges.
     fn is_within(self, sessions: u32) -> bool
         ensures { result ≡ is_within sessions self }
     {

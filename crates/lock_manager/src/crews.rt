@@ -11,8 +11,9 @@ use shared_rule::Board;
 use std::alloc::AllocFailed;
 use std::sync::Wait;
 
-/// Opens `number` sessions of `database` at `desk`, in the order of their numbers, and appends them to `crew`. Where all session numbers are given out, or
-/// memory runs out, the call ends with that refusal: the sessions opened until then are open, and in `crew`, but for one that `crew` had no room for, which is
+/// Opens `number` sessions of `database` at `desk`, in the order of their numbers, and appends them to
+/// `crew`. Where all session numbers are given out, or memory runs out, the call ends with that refusal: the
+/// sessions opened until then are open, and in `crew`, but for one that `crew` had no room for, which is
 /// closed again.
 pub fn open_sessions<T: PartTable, B: Board<T>, D: Desk<OwnSession<T, B>>, R: Wait>(
     rt: &R,
@@ -42,8 +43,8 @@ pub fn open_sessions<T: PartTable, B: Board<T>, D: Desk<OwnSession<T, B>>, R: Wa
     Ok(())
 }
 
-/// Appends `session` to `list`. Where memory runs out `session` comes back, and `list` is as before: a session can't be dropped, and `Vec::push` hands back,
-/// in its error, what it has no room for.
+/// Appends `session` to `list`. Where memory runs out `session` comes back, and `list` is as before: a
+/// session can't be dropped, and `Vec::push` hands back, in its error, what it has no room for.
 pub fn append_session<S>(list: &mut Vec<S>, session: S) -> Result<(), S>
     ensures { MatchResult result (λ _. list.new.items ≡ list.old.items ++ session ∷ [])
         (λ back. (back ≡ session) × (list.new.items ≡ list.old.items)) }

@@ -25,8 +25,9 @@ use modes_core::Refusal;
 use shared_rule::{Audit, Board, SeatBoard};
 use std::sync::Wait;
 
-/// Opens and closes the sessions of one manager, and counts what they have. A program that is written against this trait works over any board, which makes
-/// its proofs cheap, and names the board of the shared table only in the one call to which it lends a `ManagerDesk`.
+/// Opens and closes the sessions of one manager, and counts what they have. A program that is written against
+/// this trait works over any board, which makes its proofs cheap, and names the board of the shared table
+/// only in the one call to which it lends a `ManagerDesk`.
 pub trait Desk<S> {
     ghost use Rattle.std.specs.Prelude.{ℕ, List};
     ghost use Rattle.local_locks.specs.declared.records.Entry.{Entry};
@@ -42,7 +43,8 @@ pub trait Desk<S> {
     // The manager whose sessions the desk opens and closes.
     ghost manager: { Self → ManagerView };
 
-    // How many of the manager's sessions were opened, how many are open, and the histories of those that have closed.
+    // How many of the manager's sessions were opened, how many are open, and the histories of those that have
+    // closed.
     ghost issued: { Self → ℕ };
 
     ghost live: { Self → ℕ };
@@ -52,7 +54,8 @@ pub trait Desk<S> {
     // At which table a session is, and under which number.
     ghost seat: { S → Seated };
 
-    // What a session has and awaits by its own account, with its trace; what it has to do yet; and its quiet steps.
+    // What a session has and awaits by its own account, with its trace; what it has to do yet; and its quiet
+    // steps.
     ghost account: { S → Account };
 
     ghost stack: { S → Stack };
@@ -68,8 +71,9 @@ pub trait Desk<S> {
 
     ghost owned: { S → Owned };
 
-    /// Opens a session of `database` (`Opener::session`), which has the next number, holds nothing and has made no step. Refused where all session numbers
-    /// are given out, and otherwise where memory runs out; after a refusal nothing has changed.
+    /// Opens a session of `database` (`Opener::session`), which has the next number, holds nothing and has
+    /// made no step. Refused where all session numbers are given out, and otherwise where memory runs out;
+    /// after a refusal nothing has changed.
     fn open(&mut self, database: u32) -> Result<S, Refusal>
         ensures manager { manager self.new ≡ manager self.old }
         ensures own { IfOk result (λ session. (seat session).table ≡ (manager self.old).table) }
@@ -92,8 +96,8 @@ pub trait Desk<S> {
     fn live(&self) -> u32
         ensures { result ≡ live self.now };
 
-    /// Has `session` and `other` meet (`Session::meet`), which shows that no hold of the one conflicts with a hold of the other. Both sessions keep what they
-    /// have, and make no step; `other` comes back.
+    /// Has `session` and `other` meet (`Session::meet`), which shows that no hold of the one conflicts with a
+    /// hold of the other. Both sessions keep what they have, and make no step; `other` comes back.
     fn meet(&self, session: &mut S, other: S) -> S
         requires same_manager { (seat other).table ≡ (seat session.old).table }
         ensures told { DontConflict (entries session.old) (entries other) }
@@ -108,8 +112,9 @@ pub trait Desk<S> {
         ensures its_unchanged { IsUnchanged seat account stack quiet
             (session_at database_of uses owned other) (session_at database_of uses owned result) };
 
-    /// Counts what is in the manager, all of whose open `sessions` are lent (`Manager::audit`): fast-path slots and lock table have together as many holds as
-    /// the sessions have local entries, and the strong lock counters count the strong ones among these. The first session makes the steps; all else of the
+    /// Counts what is in the manager, all of whose open `sessions` are lent (`Manager::audit`): fast-path
+    /// slots and lock table have together as many holds as the sessions have local entries, and the strong
+    /// lock counters count the strong ones among these. The first session makes the steps; all else of the
     /// sessions is as before. Refused where memory runs out; the sessions are as before in that case too.
     fn audit<R: Wait>(&mut self, rt: &R, sessions: &mut Vec<S>) -> Result<Audit, Refusal>
         requires own { All (λ session. (seat session).table ≡ (manager self.old).table) sessions.old.items }
@@ -128,8 +133,8 @@ pub trait Desk<S> {
         ensures none_closed { closed self.new ≡ closed self.old }
         ensures no_memory { IsOkUnless result Refusal.NoMemory };
 
-    /// Closes `session`, one of the desk's own (`Session::close`): all that it holds is released, in the order of making, and its history is among those of
-    /// the closed sessions.
+    /// Closes `session`, one of the desk's own (`Session::close`): all that it holds is released, in the
+    /// order of making, and its history is among those of the closed sessions.
     fn close<R: Wait>(&mut self, rt: &R, session: S)
         requires own { (seat session).table ≡ (manager self.old).table }
         ensures manager { manager self.new ≡ manager self.old }

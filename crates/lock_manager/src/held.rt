@@ -7,7 +7,8 @@ ghost use Rattle.local_locks.specs.Owned.{has_entry};
 use local_locks::LocalTable;
 use modes_core::{Mode, ModeSet, Tag};
 
-/// The modes in which the session of the local lock table `locals` has `tag` (`holdMask` of `PROCLOCK` in lock.h).
+/// The modes in which the session of the local lock table `locals` has `tag` (`holdMask` of `PROCLOCK` in
+/// lock.h).
 pub fn modes_held(locals: &LocalTable, tag: Tag) -> ModeSet
     ensures { set_has result ≡ has_entry locals.now.entries tag }
 {

@@ -1,5 +1,5 @@
-//! What the contracts of a session's calls say together. Each function here is a law: its clause is proved, and its
-//! body is empty.
+//! What the contracts of a session's calls say together. Each function here is a law: its clause is proved,
+//! and its body is empty.
 
 ghost use Rattle.std.specs.Prelude.{◌≡◌, ◌≢◌, ◌⊎◌, ◌<◌, ℕ, true, List, ◌∷◌, ◌++◌, Err, None, Some, slice_get};
 ghost use mathlib.Core.Option.{some};
@@ -36,9 +36,9 @@ ghost use Rattle.lock_world.specs.Counted.{is_counted};
 
 use lock_table::PartTable;
 
-/// A conditional request that is refused with a conflict, as the clause `steps` of `try_lock` describes it, names another session. In the content that was
-/// taken for the request that session holds the object in the mode that is named, or awaits the object in that mode, and the mode conflicts with the one
-/// asked for.
+/// A conditional request that is refused with a conflict, as the clause `steps` of `try_lock` describes it,
+/// names another session. In the content that was taken for the request that session holds the object in the
+/// mode that is named, or awaits the object in that mode, and the mode conflicts with the one asked for.
 pub fn a_conflict_names_another_session_in_the_way()
     ensures another { (seat : Seated) (a b : Account) (uses left : UseCounts)
         (tag : Tag) (mode its : Mode) (other : ℕ) (how : How) →
@@ -49,11 +49,13 @@ pub fn a_conflict_names_another_session_in_the_way()
         IsInTheWay decides.taken seat.number tag mode (record { session = other; mode = its; how = how }) }
 {}
 
-/// A refusal saw what it names. The rule of the table holds between any two steps of all threads; where it does, let a session's account have gone on from
-/// the one that `try_lock` left when it was refused with a conflict, as the clause `steps` of `try_lock` describes it. Events lead from the opening World to
-/// the one that the table shows. In a World on their way, in which the session had made just the steps before the episode that decided, the content of the
-/// object's partition was the one that was taken. In that content the session named, which is another one, held the object in the mode named, or awaited it
-/// in that mode, and the mode conflicts with the one asked for.
+/// A refusal saw what it names. The rule of the table holds between any two steps of all threads; where it
+/// does, let a session's account have gone on from the one that `try_lock` left when it was refused with a
+/// conflict, as the clause `steps` of `try_lock` describes it. Events lead from the opening World to the one
+/// that the table shows. In a World on their way, in which the session had made just the steps before the
+/// episode that decided, the content of the object's partition was the one that was taken. In that content
+/// the session named, which is another one, held the object in the mode named, or awaited it in that mode,
+/// and the mode conflicts with the one asked for.
 pub fn a_refusal_saw_what_it_names<T: PartTable>()
     ensures { (sizes : TableSizes) (state : State (Kept T) (View T)) (rule : Ruled T.content T.begun sizes state)
         (at place : ℕ) (view : View T) (history : History T) → get_elem? state.views at ≡ some view →
@@ -67,10 +69,11 @@ pub fn a_refusal_saw_what_it_names<T: PartTable>()
         × NamesWhatIs world seat.number tag mode decides.taken (record { session = other; mode = its; how = how }) }
 {}
 
-/// The counts of the running table are exact. The rule of the table holds between any two steps of all threads; where it does, a partition that nobody has in
-/// hand has its part at home, with the content that the World has in that partition. What `RecordPart::counts` says of an object of that part is how many
-/// sessions hold it in each mode in that content, and how many hold or await it in each mode; where the part has no counts of the object, nobody holds or
-/// awaits it.
+/// The counts of the running table are exact. The rule of the table holds between any two steps of all
+/// threads; where it does, a partition that nobody has in hand has its part at home, with the content that
+/// the World has in that partition. What `RecordPart::counts` says of an object of that part is how many
+/// sessions hold it in each mode in that content, and how many hold or await it in each mode; where the part
+/// has no counts of the object, nobody holds or awaits it.
 pub fn the_counts_of_the_table_are_exact()
     ensures { (sizes : TableSizes) (state : State (Kept RecordView) (View RecordView))
         (rule : Ruled content_of (λ part. part.begun) sizes state) (partition : ℕ) → partition < 16 →
@@ -81,9 +84,9 @@ pub fn the_counts_of_the_table_are_exact()
         × ((tag : Tag) → IsUntouched (content_of part) tag → IsUntouched (rule.world.contents.now partition) tag) }
 {}
 
-/// Nothing is counted without a reason. Between two calls of a session that waits for nothing, as `rest` of each call
-/// says it, a strong mode on an object that it has counted is its own hold; of one that waits, its own hold or what it
-/// awaits. Within a call a count is for what is being acquired or given up.
+/// Nothing is counted without a reason. Between two calls of a session that waits for nothing, as `rest` of
+/// each call says it, a strong mode on an object that it has counted is its own hold; of one that waits, its
+/// own hold or what it awaits. Within a call a count is for what is being acquired or given up.
 pub fn what_is_counted_is_held_or_awaited()
     ensures at_rest { (groups limit database : ℕ) (uses : UseCounts) (a : Account) (stack : Stack) (entries : List Entry)
         → IsAtRest groups limit database uses a stack entries → (tag : Tag) (mode : Mode)

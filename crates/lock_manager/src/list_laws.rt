@@ -62,13 +62,14 @@ pub fn each_step_of_a_history_has_its_moment<T: PartTable>()
         ⊎ HasItsMoment (opening sizes.sessions sizes.groups) rule.events rule.world history.number mark older }
 {}
 
-/// What a session comes to own has its moment. Where the rule of the table holds, let the history of a session that has a
-/// seat have gone on by some marks, as by those of a call, from an account in which the session does not own a mode on
-/// an object to one in which it does. Then one of these marks sets the mode in a slot, puts a partition with its grant, or
-/// clears the session's wait word, once its wait was granted. Its step has its moment in the run, behind the steps of the
-/// marks before it, and so between the two accounts: a mode set in a slot is granted in the one list by that event. Where
-/// the session owns the mode first and then not, one of the marks clears it in a slot, puts a partition with its release,
-/// or marks somebody granted whom its release wakes, at its moment.
+/// What a session comes to own has its moment. Where the rule of the table holds, let the history of a
+/// session that has a seat have gone on by some marks, as by those of a call, from an account in which the
+/// session does not own a mode on an object to one in which it does. Then one of these marks sets the mode in
+/// a slot, puts a partition with its grant, or clears the session's wait word, once its wait was granted. Its
+/// step has its moment in the run, behind the steps of the marks before it, and so between the two accounts:
+/// a mode set in a slot is granted in the one list by that event. Where the session owns the mode first and
+/// then not, one of the marks clears it in a slot, puts a partition with its release, or marks somebody
+/// granted whom its release wakes, at its moment.
 pub fn what_a_session_comes_to_own_has_its_moment<T: PartTable>()
     ensures comes { (sizes : TableSizes) (state : State (Kept T) (View T)) (rule : Ruled T.content T.begun sizes state)
         (history : History T) → StandsAtSeat state.views history → (later between earlier : List (Mark T))

@@ -15,17 +15,19 @@ use modes_core::{PARTITIONS, Refusal};
 use shared_rule::Board;
 use std::sync::Wait;
 
-/// What a listing shows of all that is held and awaited: the rows of the sessions' fast-path slots, and those of the lock table.
+/// What a listing shows of all that is held and awaited: the rows of the sessions' fast-path slots, and those
+/// of the lock table.
 #[derive(Debug, Drop)]
 pub struct Listing {
     pub fast: Vec<SlotRow>,
     pub table: Vec<TableRow>,
 }
 
-/// All that is held and awaited (`GetLockStatusData` in lock.c), as the session on `board`, which owns `own`, sees it: first what the slots show, read
-/// session by session with the lock of each one's slots shared, and then the lock table at one moment, at which the session has all partitions in hand. So a
-/// hold that is moved from a slot to the table meanwhile may be listed in both, and no hold that lasts throughout is missed. Only the lists of the answer
-/// take memory.
+/// All that is held and awaited (`GetLockStatusData` in lock.c), as the session on `board`, which owns `own`,
+/// sees it: first what the slots show, read session by session with the lock of each one's slots shared, and
+/// then the lock table at one moment, at which the session has all partitions in hand. So a hold that is
+/// moved from a slot to the table meanwhile may be listed in both, and no hold that lasts throughout is
+/// missed. Only the lists of the answer take memory.
 pub fn list<T: PartTable, B: Board<T>, R: Wait>(
     rt: &R,
     board: &mut B,
@@ -58,7 +60,8 @@ pub fn list<T: PartTable, B: Board<T>, R: Wait>(
     }
 }
 
-/// Appends to `rows` the rows of the lock table at one moment, at which the session has all partitions in hand.
+/// Appends to `rows` the rows of the lock table at one moment, at which the session has all partitions in
+/// hand.
 fn list_table<T: PartTable, B: Board<T>, R: Wait>(
     rt: &R,
     board: &mut B,
@@ -80,7 +83,8 @@ fn list_table<T: PartTable, B: Board<T>, R: Wait>(
     Ok(())
 }
 
-/// Appends to `rows` the rows of the partitions from `part` on, all of which are taken before the first one is put back.
+/// Appends to `rows` the rows of the partitions from `part` on, all of which are taken before the first one
+/// is put back.
 fn list_from<T: PartTable, B: Board<T>, R: Wait>(
     rt: &R,
     board: &mut B,
@@ -109,9 +113,11 @@ fn list_from<T: PartTable, B: Board<T>, R: Wait>(
 }
 
 impl<T: PartTable, B: Board<T>> OwnSession<T, B> {
-    /// All that is held and awaited (`GetLockStatusData` in lock.c): first what the slots show, session by session, then the lock table at one moment, at
-    /// which the session has all partitions in hand. A hold that is moved from a slot to the table meanwhile may be in both parts of the answer; one that
-    /// lasts throughout is in one of the two at least. Only the lists of the answer take memory; the call is refused where that runs out.
+    /// All that is held and awaited (`GetLockStatusData` in lock.c): first what the slots show, session by
+    /// session, then the lock table at one moment, at which the session has all partitions in hand. A hold
+    /// that is moved from a slot to the table meanwhile may be in both parts of the answer; one that lasts
+    /// throughout is in one of the two at least. Only the lists of the answer take memory; the call is
+    /// refused where that runs out.
     pub fn list<R: Wait>(&mut self, rt: &R) -> Result<Listing, Refusal>
         ensures listed { Lists (B.seat self.old.board).groups (B.seat self.old.board).limit
             (B.seat self.old.board).number (B.view self.old.board) result (B.view self.new.board) }

@@ -17,7 +17,8 @@ use shared_rule::{Board, SeatBoard, SeatOpener, SharedTable, TableSizes, in_shel
 use std::alloc::Global;
 use std::marker::Model;
 
-/// What was in the lock manager as it was finished: the numbers of holds in fast-path slots and in the lock table, and the sum of the strong lock counters.
+/// What was in the lock manager as it was finished: the numbers of holds in fast-path slots and in the lock
+/// table, and the sum of the strong lock counters.
 #[derive(Clone, Copy, Debug, PartialEq, Eq)]
 pub struct Final {
     pub fast: u32,
@@ -25,8 +26,9 @@ pub struct Final {
     pub strong: u32,
 }
 
-/// The lock manager: what all sessions share (the shared memory that `InitLocks` in lock.c sets up). Its sessions borrow the manager. Contracts see its
-/// table, how many sessions it may open, and how many groups of fast-path slots and how many local entries each may have.
+/// The lock manager: what all sessions share (the shared memory that `InitLocks` in lock.c sets up). Its
+/// sessions borrow the manager. Contracts see its table, how many sessions it may open, and how many groups
+/// of fast-path slots and how many local entries each may have.
 #[derive(Drop)]
 pub struct Manager {
     pub(crate) table: SharedTable<Part>,
@@ -52,8 +54,9 @@ impl Model for Manager {
         × (manager.max_local ≤ 65536) };
 }
 
-/// Gives the sessions of a manager out and takes them back. Contracts see at which table the opener is, how many sessions it has given out and may give out,
-/// how many of these are open, and the histories of those that have closed.
+/// Gives the sessions of a manager out and takes them back. Contracts see at which table the opener is, how
+/// many sessions it has given out and may give out, how many of these are open, and the histories of those
+/// that have closed.
 #[derive(Drop)]
 pub struct Opener {
     pub(crate) numbers: SeatOpener<Part>,
@@ -83,8 +86,9 @@ impl Model for Opener {
 }
 
 impl Manager {
-    /// A manager as `config` says, with no session yet, and its opener (`InitLocks` in lock.c with `InitProcGlobal` in proc.c). Refused where a number of the
-    /// configuration is out of its range, which is 1 to 64 for the sessions, and otherwise where memory, by `alloc`, runs out.
+    /// A manager as `config` says, with no session yet, and its opener (`InitLocks` in lock.c with
+    /// `InitProcGlobal` in proc.c). Refused where a number of the configuration is out of its range, which is
+    /// 1 to 64 for the sessions, and otherwise where memory, by `alloc`, runs out.
     pub fn new(alloc: Global, config: Config) -> Result<(Manager, Opener), Refusal>
         ensures ok { IfOk result (λ made. IsNew made.0 made.1 config) }
         ensures bad_config { IsErrOf result Refusal.BadConfig ↔ (is_in_range config ≡ false) }
@@ -96,9 +100,10 @@ impl Manager {
         Manager::of_size(alloc, config)
     }
 
-    /// A server's manager as `config` says, which may have up to 1,024 sessions, with no session yet, and its opener. The memory of the table, and the steps
-    /// of a strong lock of a relation and of a listing, grow with the number of sessions that `config` asks for. Refused where a number of the configuration
-    /// is out of its range, and otherwise where memory, by `alloc`, runs out.
+    /// A server's manager as `config` says, which may have up to 1,024 sessions, with no session yet, and its
+    /// opener. The memory of the table, and the steps of a strong lock of a relation and of a listing, grow
+    /// with the number of sessions that `config` asks for. Refused where a number of the configuration is out
+    /// of its range, and otherwise where memory, by `alloc`, runs out.
     pub fn for_server(alloc: Global, config: Config) -> Result<(Manager, Opener), Refusal>
         ensures ok { IfOk result (λ made. IsNew made.0 made.1 config) }
         ensures bad_config { IsErrOf result Refusal.BadConfig ↔ (is_in_server_range config ≡ false) }
@@ -110,8 +115,8 @@ impl Manager {
         Manager::of_size(alloc, config)
     }
 
-    /// A manager as `config` says, whose numbers are in the ranges of a server's manager, with no session yet, and its opener. Refused where
-    /// memory, by `alloc`, runs out.
+    /// A manager as `config` says, whose numbers are in the ranges of a server's manager, with no session
+    /// yet, and its opener. Refused where memory, by `alloc`, runs out.
     fn of_size(alloc: Global, config: Config) -> Result<(Manager, Opener), Refusal>
         requires within { is_in_server_range config ≡ true }
         ensures ok { IfOk result (λ made. IsNew made.0 made.1 config) }
@@ -144,8 +149,8 @@ impl Manager {
         Ok((manager, opener))
     }
 
-    /// Ends the manager, all of whose sessions are closed, with its `opener`. Nothing is held any more, since each session showed so as it was closed: the
-    /// three numbers of the answer are 0 without a count.
+    /// Ends the manager, all of whose sessions are closed, with its `opener`. Nothing is held any more, since
+    /// each session showed so as it was closed: the three numbers of the answer are 0 without a count.
     pub fn finish(self, opener: Opener) -> Final
         requires own { IsOpenerOf opener self }
         requires none_live { opener.live ≡ 0 }
@@ -168,8 +173,9 @@ impl Opener {
         u32::from(self.live)
     }
 
-    /// A new session of `manager` for `database`, with room for its first local entries (`InitProcess` in proc.c, with `databaseId` stored as `InitPostgres`
-    /// in postinit.c does). Session numbers are given out in rising order, each once. Refused where all are given out, and otherwise where memory runs out;
+    /// A new session of `manager` for `database`, with room for its first local entries (`InitProcess` in
+    /// proc.c, with `databaseId` stored as `InitPostgres` in postinit.c does). Session numbers are given out
+    /// in rising order, each once. Refused where all are given out, and otherwise where memory runs out;
     /// after a refusal the opener is as before.
     pub fn session<'a>(
         &mut self,

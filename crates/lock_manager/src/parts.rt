@@ -25,7 +25,8 @@ impl<S, W> Started<S, W> {
 }
 
 impl<S, W> Polled<S, W> {
-    /// The session whose wait was granted, or, as an error, the session that waits still, with whether it was asked to cancel.
+    /// The session whose wait was granted, or, as an error, the session that waits still, with whether it was
+    /// asked to cancel.
     pub fn into_parts(self) -> Result<S, (W, bool)>
         ensures parts { result ≡ parts_polled self }
     {
@@ -65,7 +66,8 @@ impl<S> Waited<S> {
 }
 
 impl<S> Cancelled<S> {
-    /// The session, with what the acquire whose wait it cancelled is answered: `Cancelled`, or granted where the grant was first.
+    /// The session, with what the acquire whose wait it cancelled is answered: `Cancelled`, or granted where
+    /// the grant was first.
     pub fn into_parts(self) -> (S, Result<Acquired, Refusal>)
         ensures session { result.0 ≡ session_cancelled self }
         ensures answer { result.1 ≡ acquired_despite (was_granted self) }

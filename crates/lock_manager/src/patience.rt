@@ -22,8 +22,8 @@ use shared_rule::Board;
 use std::sync::Wait;
 use wait_queue::Kind;
 
-/// Ends the session's wait for `mode` on `tag` by a cancel of its own (`LockErrorCleanup` in proc.c). Refused with `Cancelled`; but where the grant was
-/// first, the session has the mode for `owner`.
+/// Ends the session's wait for `mode` on `tag` by a cancel of its own (`LockErrorCleanup` in proc.c). Refused
+/// with `Cancelled`; but where the grant was first, the session has the mode for `owner`.
 fn give_up<T: PartTable, B: Board<T>, R: Wait>(
     rt: &R,
     board: &mut B,
@@ -53,8 +53,8 @@ fn give_up<T: PartTable, B: Board<T>, R: Wait>(
     Err(Refusal::Cancelled)
 }
 
-/// Waits until the wait for `mode` on `tag` is granted, another session asks to cancel it, or `keep_waiting` answers
-/// no, which is asked after each look that showed neither (`ProcSleep` in proc.c with a timeout, and
+/// Waits until the wait for `mode` on `tag` is granted, another session asks to cancel it, or `keep_waiting`
+/// answers no, which is asked after each look that showed neither (`ProcSleep` in proc.c with a timeout, and
 /// `LockErrorCleanup`).
 fn wait_while<T: PartTable, B: Board<T>, R: Wait, K: FnMut() -> bool>(
     rt: &R,
@@ -95,8 +95,8 @@ fn wait_while<T: PartTable, B: Board<T>, R: Wait, K: FnMut() -> bool>(
     unreachable!()
 }
 
-/// Acquires `mode` on `tag` for `owner`, and waits for it where it must, for as long as `keep_waiting` says: `acquire`,
-/// and `wait_while` where that queued the request.
+/// Acquires `mode` on `tag` for `owner`, and waits for it where it must, for as long as `keep_waiting` says:
+/// `acquire`, and `wait_while` where that queued the request.
 fn lock_while<T: PartTable, B: Board<T>, R: Wait, K: FnMut() -> bool>(
     rt: &R,
     board: &mut B,
@@ -141,10 +141,12 @@ fn lock_while<T: PartTable, B: Board<T>, R: Wait, K: FnMut() -> bool>(
 }
 
 impl<T: PartTable, B: Board<T>> OwnSession<T, B> {
-    /// Takes `tag` in `mode` for `owner` as `acquire` does, and waits where it must for as long as `keep_waiting` answers yes (`LockAcquire` in lock.c with a
-    /// `lock_timeout`). The function is asked after each look at the wait that showed neither a grant nor that another session asked to cancel it. Where it
-    /// answers no the wait is given up, and the acquire is refused with `Cancelled`, as where another session asked; or, where the grant was first, it is
-    /// granted. The session doesn't sleep between two looks, and has no clock: its caller pauses, and looks at a clock of his own, in `keep_waiting`.
+    /// Takes `tag` in `mode` for `owner` as `acquire` does, and waits where it must for as long as
+    /// `keep_waiting` answers yes (`LockAcquire` in lock.c with a `lock_timeout`). The function is asked
+    /// after each look at the wait that showed neither a grant nor that another session asked to cancel it.
+    /// Where it answers no the wait is given up, and the acquire is refused with `Cancelled`, as where
+    /// another session asked; or, where the grant was first, it is granted. The session doesn't sleep between
+    /// two looks, and has no clock: its caller pauses, and looks at a clock of his own, in `keep_waiting`.
     pub fn acquire_while<R: Wait, K: FnMut() -> bool>(
         &mut self,
         rt: &R,

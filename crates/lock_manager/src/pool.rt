@@ -20,17 +20,18 @@ use std::alloc::{AllocError, Global};
 use std::marker::Model;
 use std::sync::Wait;
 
-/// A session number, with how often its session was given back to its `SessionPool` before: one connection's use of that session. Once the session is given
-/// back, nobody has this life any more.
+/// A session number, with how often its session was given back to its `SessionPool` before: one connection's
+/// use of that session. Once the session is given back, nobody has this life any more.
 #[derive(Clone, Copy, Debug, PartialEq, Eq)]
 pub struct SessionLife {
     pub number: SessionId,
     pub life: u64,
 }
 
-/// Lends the sessions of one manager to connections that come and go, any number of them in turn, and as many at a time as the manager has (`freeProcs` of
-/// `ProcGlobal` in proc.c, of which `InitProcess` takes one and to which `ProcKill` gives it back). A session is taken back with nothing held. Contracts see
-/// the sessions that nobody has, and the life of each session number for which the pool has room.
+/// Lends the sessions of one manager to connections that come and go, any number of them in turn, and as many
+/// at a time as the manager has (`freeProcs` of `ProcGlobal` in proc.c, of which `InitProcess` takes one and
+/// to which `ProcKill` gives it back). A session is taken back with nothing held. Contracts see the sessions
+/// that nobody has, and the life of each session number for which the pool has room.
 pub struct SessionPool<T: PartTable, B: Board<T>> {
     free: Vec<OwnSession<T, B>>,
     lives: Vec<u64>,
@@ -65,7 +66,8 @@ fn lowest_place<T: PartTable, B: Board<T>>(free: &Vec<OwnSession<T, B>>) -> usiz
     lowest
 }
 
-/// The lives of sessions with the numbers below `sessions`, none of which was given back yet: a list of zeros, in memory from `alloc`.
+/// The lives of sessions with the numbers below `sessions`, none of which was given back yet: a list of
+/// zeros, in memory from `alloc`.
 fn no_lives(alloc: Global, sessions: u16) -> Result<Vec<u64>, AllocError>
     ensures { IfOk result (λ lives. lives.items ≡ replicate sessions 0) }
 {
@@ -75,8 +77,8 @@ fn no_lives(alloc: Global, sessions: u16) -> Result<Vec<u64>, AllocError>
 }
 
 impl<T: PartTable, B: Board<T>> SessionPool<T, B> {
-    /// A pool with no session yet, for a manager made by `Manager::new`: it has room for `USUAL_SESSIONS` sessions, which is 64. Refused where memory, by
-    /// `alloc`, runs out.
+    /// A pool with no session yet, for a manager made by `Manager::new`: it has room for `USUAL_SESSIONS`
+    /// sessions, which is 64. Refused where memory, by `alloc`, runs out.
     pub fn new(alloc: Global) -> Result<Self, Refusal>
         ensures ok { IfOk result (λ pool. IsNewPool usual_sessions pool) }
         ensures no_memory { IsOkUnless result Refusal.NoMemory }
@@ -84,8 +86,9 @@ impl<T: PartTable, B: Board<T>> SessionPool<T, B> {
         Self::with_room(alloc, USUAL_SESSIONS)
     }
 
-    /// A pool with no session yet, for a manager made by `Manager::for_server`: it has room for `sessions` sessions, but for no more than `MOST_SESSIONS`,
-    /// which is 1,024. Room for a session takes some thirty bytes. Refused where memory, by `alloc`, runs out.
+    /// A pool with no session yet, for a manager made by `Manager::for_server`: it has room for `sessions`
+    /// sessions, but for no more than `MOST_SESSIONS`, which is 1,024. Room for a session takes some thirty
+    /// bytes. Refused where memory, by `alloc`, runs out.
     pub fn for_server(alloc: Global, sessions: u32) -> Result<Self, Refusal>
         ensures ok { IfOk result (λ pool. IsNewPool (min sessions most_sessions) pool) }
         ensures no_memory { IsOkUnless result Refusal.NoMemory }
@@ -93,7 +96,8 @@ impl<T: PartTable, B: Board<T>> SessionPool<T, B> {
         Self::with_room(alloc, sessions.min(u32::from(MOST_SESSIONS)) as u16)
     }
 
-    /// A pool with no session yet, which has room for `sessions` sessions. Refused where memory, by `alloc`, runs out.
+    /// A pool with no session yet, which has room for `sessions` sessions. Refused where memory, by `alloc`,
+    /// runs out.
     fn with_room(alloc: Global, sessions: u16) -> Result<Self, Refusal>
         ensures ok { IfOk result (λ pool. IsNewPool sessions pool) }
         ensures no_memory { IsOkUnless result Refusal.NoMemory }
@@ -114,7 +118,8 @@ impl<T: PartTable, B: Board<T>> SessionPool<T, B> {
         self.free.len()
     }
 
-    /// The session with the lowest number of those in the pool that nobody has, which serves `database` from then on, or `None` where the pool has none.
+    /// The session with the lowest number of those in the pool that nobody has, which serves `database` from
+    /// then on, or `None` where the pool has none.
     pub fn lend<R: Wait>(&mut self, rt: &R, database: u32) -> Option<OwnSession<T, B>>
         ensures none { IsNone result ↔ (self.old.free ≡ []) }
         ensures unchanged { IfNone result (self.new ≡ self.old) }
@@ -129,9 +134,10 @@ impl<T: PartTable, B: Board<T>> SessionPool<T, B> {
         Some(session)
     }
 
-    /// Takes `session` in, all of whose holds are released, in the order of making (`ProcKill` in proc.c). Nobody has its life any more. `session` comes
-    /// back, with nothing held, where the pool has no room for it: the pool is full, or has no room for a session of that number. Neither can be where the
-    /// pool has room for all sessions of the manager.
+    /// Takes `session` in, all of whose holds are released, in the order of making (`ProcKill` in proc.c).
+    /// Nobody has its life any more. `session` comes back, with nothing held, where the pool has no room for
+    /// it: the pool is full, or has no room for a session of that number. Neither can be where the pool has
+    /// room for all sessions of the manager.
     pub fn take_in<R: Wait>(
         &mut self,
         rt: &R,
@@ -175,9 +181,10 @@ impl<T: PartTable, B: Board<T>> SessionPool<T, B> {
         }
     }
 
-    /// Has `session` ask the session that `other` is a life of to cancel its wait, as `OwnSession::ask_cancel` does (`processCancelRequest` in postmaster.c,
-    /// which compares the key of the session that is to be cancelled). Where that life is over nothing is done, and nobody else's wait ends: the pool is
-    /// borrowed meanwhile, so no number goes on to another life.
+    /// Has `session` ask the session that `other` is a life of to cancel its wait, as
+    /// `OwnSession::ask_cancel` does (`processCancelRequest` in postmaster.c, which compares the key of the
+    /// session that is to be cancelled). Where that life is over nothing is done, and nobody else's wait
+    /// ends: the pool is borrowed meanwhile, so no number goes on to another life.
     pub fn ask_cancel(&self, session: &mut OwnSession<T, B>, other: SessionLife) -> Asked
         ensures over { life_of self.now.lives other.number ≢ other.life →
             (result ≡ Asked.NotWaiting) × (session.new ≡ session.old) }
@@ -195,8 +202,9 @@ impl<T: PartTable, B: Board<T>> SessionPool<T, B> {
         session.ask_cancel(other.number)
     }
 
-    /// A session of `desk` for a connection, which works on `database`: the one with the lowest number of those that nobody has, or else a new one. Refused
-    /// where all sessions that the manager can have are in use, and otherwise where memory runs out; after a refusal nothing has changed.
+    /// A session of `desk` for a connection, which works on `database`: the one with the lowest number of
+    /// those that nobody has, or else a new one. Refused where all sessions that the manager can have are in
+    /// use, and otherwise where memory runs out; after a refusal nothing has changed.
     pub fn open<D: Desk<OwnSession<T, B>>, R: Wait>(
         &mut self,
         rt: &R,
@@ -229,8 +237,9 @@ impl<T: PartTable, B: Board<T>> SessionPool<T, B> {
         }
     }
 
-    /// Takes `session` back, one of `desk`, whose connection has ended (`take_in`). Where the pool has no room for `session`, which can't be if it has room
-    /// for all sessions of the manager, `session` is closed, and its number is given out no more.
+    /// Takes `session` back, one of `desk`, whose connection has ended (`take_in`). Where the pool has no
+    /// room for `session`, which can't be if it has room for all sessions of the manager, `session` is
+    /// closed, and its number is given out no more.
     pub fn close<D: Desk<OwnSession<T, B>>, R: Wait>(
         &mut self,
         rt: &R,
@@ -255,7 +264,8 @@ impl<T: PartTable, B: Board<T>> SessionPool<T, B> {
         }
     }
 
-    /// Ends the pool: closes, at `desk`, which opened them, all of its sessions that nobody has. Their numbers are given out no more.
+    /// Ends the pool: closes, at `desk`, which opened them, all of its sessions that nobody has. Their
+    /// numbers are given out no more.
     pub fn end<D: Desk<OwnSession<T, B>>, R: Wait>(self, rt: &R, desk: &mut D)
         requires seats { SeatsAre B.seat D.seat }
         requires free { AreOf B.seat (D.manager desk.old) self.free }

@@ -13,10 +13,12 @@ use shared_rule::Board;
 use std::sync::Wait;
 use wait_queue::{Blocker, blockers_of, queue_of};
 
-/// A row of an object's wait queue: the session that waits, the mode that it waits for, and the modes of the object that it held when it joined the queue.
+/// A row of an object's wait queue: the session that waits, the mode that it waits for, and the modes of the
+/// object that it held when it joined the queue.
 pub type QueueRow = Waiter;
 
-/// The waits on `tag` at one moment, in the order of the object's wait queue, as the session on `board`, which owns `own`, sees them.
+/// The waits on `tag` at one moment, in the order of the object's wait queue, as the session on `board`,
+/// which owns `own`, sees them.
 fn queue<T: PartTable, B: Board<T>, R: Wait>(
     rt: &R,
     board: &mut B,
@@ -101,7 +103,8 @@ pub fn blockers_of_own<T: PartTable, B: Board<T>, R: Wait>(
     }
 }
 
-/// The waits on `tag` at one moment, in the order of the object's wait queue, as a session sees them that itself waits for `mode` on `tag`.
+/// The waits on `tag` at one moment, in the order of the object's wait queue, as a session sees them that
+/// itself waits for `mode` on `tag`.
 pub fn queue_of_own<T: PartTable, B: Board<T>, R: Wait>(
     rt: &R,
     board: &mut B,
@@ -130,8 +133,9 @@ pub fn queue_of_own<T: PartTable, B: Board<T>, R: Wait>(
 }
 
 impl<T: PartTable, B: Board<T>> OwnSession<T, B> {
-    /// The waits on `tag`, in the order of the object's wait queue, with the modes that each waiting session held when it joined: by one episode in the
-    /// object's partition, which changes nothing. Only the list of the answer takes memory; refused where that runs out.
+    /// The waits on `tag`, in the order of the object's wait queue, with the modes that each waiting session
+    /// held when it joined: by one episode in the object's partition, which changes nothing. Only the list of
+    /// the answer takes memory; refused where that runs out.
     pub fn queue<R: Wait>(&mut self, rt: &R, tag: Tag) -> Result<Vec<QueueRow>, Refusal>
         // What the call answers.
         ensures looked { LooksAt (λ taken. IfOk result (λ rows. IsQueue tag rows.items taken))
@@ -147,10 +151,12 @@ impl<T: PartTable, B: Board<T>> OwnSession<T, B> {
         queue(rt, &mut self.board, &self.own, tag)
     }
 
-    /// The sessions in the way of `session`, which waits on `tag` (`GetBlockerStatusData` in lock.c, for `pg_blocking_pids`): by session and mode those who
-    /// hold a mode that conflicts with the awaited one, and then, in the order of the queue, those before it who await one. Nobody where `session` doesn't
-    /// wait on `tag`. The answer is of one episode in the object's partition, which changes nothing. A hold in a fast-path slot is in nobody's way: it is
-    /// moved to the table before a mode that conflicts with it can wait. Only the list of the answer takes memory; refused where that runs out.
+    /// The sessions in the way of `session`, which waits on `tag` (`GetBlockerStatusData` in lock.c, for
+    /// `pg_blocking_pids`): by session and mode those who hold a mode that conflicts with the awaited one,
+    /// and then, in the order of the queue, those before it who await one. Nobody where `session` doesn't
+    /// wait on `tag`. The answer is of one episode in the object's partition, which changes nothing. A hold
+    /// in a fast-path slot is in nobody's way: it is moved to the table before a mode that conflicts with it
+    /// can wait. Only the list of the answer takes memory; refused where that runs out.
     pub fn blockers<R: Wait>(
         &mut self,
         rt: &R,

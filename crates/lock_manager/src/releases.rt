@@ -25,8 +25,9 @@ use shared_rule::Board;
 use std::sync::Wait;
 use wait_queue::take_hold_out;
 
-/// Releases all holds that `end`, which is the end of a transaction, of its innermost level or of the session, takes from the session, in the order of making
-/// (`LockReleaseAll` in lock.c, and `LockReleaseCurrentOwner` there).
+/// Releases all holds that `end`, which is the end of a transaction, of its innermost level or of the
+/// session, takes from the session, in the order of making (`LockReleaseAll` in lock.c, and
+/// `LockReleaseCurrentOwner` there).
 pub fn end_all<T: PartTable, B: Board<T>, R: Wait>(rt: &R, board: &mut B, own: &mut Own, end: End)
     requires rest { IsAtRest (B.seat board.old).groups (B.seat board.old).limit own.old.database own.old.uses
         (B.view board.old) (B.stack board.old) own.old.locals.entries }
@@ -51,8 +52,8 @@ pub fn end_all<T: PartTable, B: Board<T>, R: Wait>(rt: &R, board: &mut B, own: &
     }
 }
 
-/// Releases the session's hold on `tag` in `mode`: from the fast-path slot that has it, or else from the lock table (`LockRelease` in lock.c, after its work
-/// on the local lock).
+/// Releases the session's hold on `tag` in `mode`: from the fast-path slot that has it, or else from the lock
+/// table (`LockRelease` in lock.c, after its work on the local lock).
 pub fn release_hold<T: PartTable, B: Board<T>, R: Wait>(
     rt: &R,
     board: &mut B,
@@ -86,8 +87,8 @@ pub fn release_hold<T: PartTable, B: Board<T>, R: Wait>(
     }
 }
 
-/// Releases the session's hold on `tag` in `mode`, which is in the lock table, wakes the sessions whose waits are granted by that, and takes the count of a
-/// strong lock back.
+/// Releases the session's hold on `tag` in `mode`, which is in the lock table, wakes the sessions whose waits
+/// are granted by that, and takes the count of a strong lock back.
 fn release_in_table<T: PartTable, B: Board<T>, R: Wait>(
     rt: &R,
     board: &mut B,
@@ -111,7 +112,8 @@ fn release_in_table<T: PartTable, B: Board<T>, R: Wait>(
     }
 }
 
-/// Takes the hold on `tag` in `mode` out of the object's partition, and grants the waits that may go on after it (`UnGrantLock` and `CleanUpLock` in lock.c).
+/// Takes the hold on `tag` in `mode` out of the object's partition, and grants the waits that may go on after
+/// it (`UnGrantLock` and `CleanUpLock` in lock.c).
 fn release_in_part<T: PartTable, B: Board<T>, R: Wait>(rt: &R, board: &mut B, tag: &Tag, mode: Mode)
     requires idle { IsIdle (B.view board.old) (B.stack board.old) }
     requires held { (B.view board.old).own tag.now mode ≡ true }
@@ -133,8 +135,9 @@ fn release_in_part<T: PartTable, B: Board<T>, R: Wait>(rt: &R, board: &mut B, ta
     }
 }
 
-/// Ends the move `done` by a wakeup of the queue of `tag`: wakes the sessions whose waits are granted, if any, and puts the partition `part` with `content`
-/// (`ProcLockWakeup` in proc.c). This is a separate function, since mostly no wait is granted.
+/// Ends the move `done` by a wakeup of the queue of `tag`: wakes the sessions whose waits are granted, if
+/// any, and puts the partition `part` with `content` (`ProcLockWakeup` in proc.c). This is a separate
+/// function, since mostly no wait is granted.
 #[cold]
 #[inline(never)]
 fn wake_and_put<T: PartTable, B: Board<T>>(
@@ -163,9 +166,10 @@ fn wake_and_put<T: PartTable, B: Board<T>>(
     }
 }
 
-/// Marks the wait of each session that the move `done` granted, which are those that `content` names as woken, wakes these sessions, and puts the partition
-/// `part` with `content` (`ProcLockWakeup` in proc.c, whose `ProcWakeup` sets each latch under the partition's lock). The first mark records the move, where
-/// it isn't recorded already.
+/// Marks the wait of each session that the move `done` granted, which are those that `content` names as
+/// woken, wakes these sessions, and puts the partition `part` with `content` (`ProcLockWakeup` in proc.c,
+/// whose `ProcWakeup` sets each latch under the partition's lock). The first mark records the move, where it
+/// isn't recorded already.
 pub fn put_with_woken<T: PartTable, B: Board<T>>(board: &mut B, part: u8, done: &Move, content: T)
     requires exists { part < 16 }
     requires grants { IsGrantingIn part done.now }

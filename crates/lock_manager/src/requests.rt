@@ -34,9 +34,10 @@ pub enum Begun {
     Queued,
 }
 
-/// Acquires `mode` on `tag` for `owner`, or begins to wait for it where `kind` says that the request may wait (`LockAcquire` in lock.c, up to `WaitOnLock`).
-/// What the session has already is counted once more, with no step on shared state; a new mode is granted in a fast-path slot, or decided in the object's
-/// partition. While the session waits, room for its new local entry is reserved.
+/// Acquires `mode` on `tag` for `owner`, or begins to wait for it where `kind` says that the request may wait
+/// (`LockAcquire` in lock.c, up to `WaitOnLock`). What the session has already is counted once more, with no
+/// step on shared state; a new mode is granted in a fast-path slot, or decided in the object's partition.
+/// While the session waits, room for its new local entry is reserved.
 #[inline(always)]
 pub fn acquire<T: PartTable, B: Board<T>, R: Wait>(
     rt: &R,
@@ -90,8 +91,9 @@ pub fn acquire<T: PartTable, B: Board<T>, R: Wait>(
     }
 }
 
-/// Acquires `mode` on `tag` for `owner` by the fast path alone, waiting for nobody (`FastPathGrantRelationLock` in lock.c, with the lock of the session's own
-/// slots taken conditionally). What the session has already is counted once more, with no step on shared state.
+/// Acquires `mode` on `tag` for `owner` by the fast path alone, waiting for nobody
+/// (`FastPathGrantRelationLock` in lock.c, with the lock of the session's own slots taken conditionally).
+/// What the session has already is counted once more, with no step on shared state.
 pub fn acquire_by_slot<T: PartTable, B: Board<T>>(
     board: &mut B,
     own: &mut Own,
@@ -134,9 +136,9 @@ pub fn acquire_by_slot<T: PartTable, B: Board<T>>(
     }
 }
 
-/// Answers a request for `mode` on `tag`, which the session hasn't (`LockAcquireExtended` in lock.c): a request for a strong mode once what is in its way in
-/// fast-path slots is moved to the table; another one in one of the session's own slots, where the mode may go by a slot, and otherwise in the object's
-/// partition.
+/// Answers a request for `mode` on `tag`, which the session hasn't (`LockAcquireExtended` in lock.c): a
+/// request for a strong mode once what is in its way in fast-path slots is moved to the table; another one in
+/// one of the session's own slots, where the mode may go by a slot, and otherwise in the object's partition.
 pub fn request<T: PartTable, B: Board<T>, R: Wait>(
     rt: &R,
     board: &mut B,
@@ -176,8 +178,9 @@ pub fn request<T: PartTable, B: Board<T>, R: Wait>(
     }
 }
 
-/// Answers a request for the strong `mode` on `tag`: the strong lock is counted, and what is in its way in fast-path slots is moved to the lock table, before
-/// the request is decided in the table. The count is taken back where the request is refused (`BeginStrongLockAcquire`, `FastPathTransferRelationLocks` and
+/// Answers a request for the strong `mode` on `tag`: the strong lock is counted, and what is in its way in
+/// fast-path slots is moved to the lock table, before the request is decided in the table. The count is taken
+/// back where the request is refused (`BeginStrongLockAcquire`, `FastPathTransferRelationLocks` and
 /// `AbortStrongLockAcquire` in lock.c).
 #[cold]
 #[inline(never)]
@@ -217,8 +220,9 @@ fn request_strong<T: PartTable, B: Board<T>, R: Wait>(
     }
 }
 
-/// Decides a request for `mode` on `tag` in the object's partition, and where the request has to wait stores so in the session's own wait word
-/// (`LockCheckConflicts` with `GrantLock` in lock.c, and `ProcSleep` in proc.c).
+/// Decides a request for `mode` on `tag` in the object's partition, and where the request has to wait stores
+/// so in the session's own wait word (`LockCheckConflicts` with `GrantLock` in lock.c, and `ProcSleep` in
+/// proc.c).
 #[inline(never)]
 fn decide_in_part<T: PartTable, B: Board<T>, R: Wait>(
     rt: &R,

@@ -11,8 +11,9 @@ use lock_table::PartTable;
 use shared_rule::Board;
 use std::sync::Wait;
 
-/// Releases all that the session on `board`, which owns `own`, holds, in the order of making, and stores `database` as the session's database from then on
-/// (`ProcKill` and then `InitProcess` in proc.c, of one PGPROC).
+/// Releases all that the session on `board`, which owns `own`, holds, in the order of making, and stores
+/// `database` as the session's database from then on (`ProcKill` and then `InitProcess` in proc.c, of one
+/// PGPROC).
 fn begin_again<T: PartTable, B: Board<T>, R: Wait>(
     rt: &R,
     board: &mut B,
@@ -32,10 +33,11 @@ fn begin_again<T: PartTable, B: Board<T>, R: Wait>(
 }
 
 impl<T: PartTable, B: Board<T>> OwnSession<T, B> {
-    /// Goes on to serve somebody else, who works on `database`: all that the session holds is released, in the order of making, as `close` does, and from
-    /// then on the session is like one that was just opened, but for its number, its trace and the room for local entries that it has taken, which it keeps.
-    /// So a server whose connections come and go hands a session from one to the next (a PGPROC of `freeProcs` in proc.c, which `ProcKill` gives back and
-    /// `InitProcess` takes). The call takes no memory.
+    /// Goes on to serve somebody else, who works on `database`: all that the session holds is released, in
+    /// the order of making, as `close` does, and from then on the session is like one that was just opened,
+    /// but for its number, its trace and the room for local entries that it has taken, which it keeps. So a
+    /// server whose connections come and go hands a session from one to the next (a PGPROC of `freeProcs` in
+    /// proc.c, which `ProcKill` gives back and `InitProcess` takes). The call takes no memory.
     pub fn serve_next<R: Wait>(&mut self, rt: &R, database: u32)
         ensures next { ServesNext B.seat B.view B.stack B.quiet database self.old self.new }
     {

@@ -47,8 +47,9 @@ use wait_queue::Kind;
 /// A session of a manager.
 pub type Session<'a> = OwnSession<Part, SeatBoard<'a, Part>>;
 
-// What a session has of its own, which no other session sees. It is written in each call, so it has padding round it,
-// which keeps it off the cache lines of what the allocator puts beside it: that may be another thread's session.
+// What a session has of its own, which no other session sees. It is written in each call, so it has padding
+// round it, which keeps it off the cache lines of what the allocator puts beside it: that may be another
+// thread's session.
 #[derive(Drop)]
 #[repr(C)]
 pub struct Own {
@@ -56,15 +57,16 @@ pub struct Own {
     pub(crate) locals: LocalTable,
     // Its database (`MyDatabaseId` in globals.c).
     pub(crate) database: u32,
-    // No less than how many of its fast-path slots are in use, by group (`FastPathLocalUseCount` in lock.c, in
-    // version 18 `FastPathLocalUseCounts`).
+    // No less than how many of its fast-path slots are in use, by group (`FastPathLocalUseCount` in lock.c,
+    // in version 18 `FastPathLocalUseCounts`).
     pub(crate) uses: UseCounts,
     pub(crate) alloc: Global,
     pub(crate) after: CachePadded<()>,
 }
 
 impl Own {
-    // What a session of this database has of its own at first: nothing, with room for its first local entries.
+    // What a session of this database has of its own at first: nothing, with room for its first local
+    // entries.
     pub(crate) fn new(alloc: Global, database: u32, max_local: u32) -> Result<Box<Own>, Refusal>
         requires from { 1 ≤ max_local }
         requires to { max_local ≤ 65536 }
@@ -93,8 +95,9 @@ impl Own {
     }
 }
 
-/// A session, over any board and any keeper of the partitions. Contracts see its board, its database, its use counts of its fast-path slots, and what it
-/// owns. A session ends by `close` alone: the compiler refuses code that drops one, which would leave its holds and its number taken for ever.
+/// A session, over any board and any keeper of the partitions. Contracts see its board, its database, its use
+/// counts of its fast-path slots, and what it owns. A session ends by `close` alone: the compiler refuses
+/// code that drops one, which would leave its holds and its number taken for ever.
 pub struct OwnSession<T: PartTable, B: Board<T>> {
     pub(crate) board: B,
     pub(crate) own: Box<Own>,
@@ -148,7 +151,8 @@ impl<T: PartTable, B: Board<T>> OwnSession<T, B> {
         }
     }
 
-    // Ends the session: all that it holds is released, in the order of making, and its board comes back, which may be closed.
+    // Ends the session: all that it holds is released, in the order of making, and its board comes back,
+    // which may be closed.
     pub(crate) fn end<R: Wait>(self, rt: &R) -> B
         ensures released { (left : UseCounts) × ReleasesAll (B.seat self.board).groups (B.seat self.board).number
             (B.view self.board) self.uses (ended_by End.Close self.owned.entries) (B.view result) left }
@@ -189,18 +193,20 @@ impl<T: PartTable, B: Board<T>> OwnSession<T, B> {
         modes_held(&self.own.locals, tag)
     }
 
-    /// How often `owner`, which is the session or the innermost level of its transaction, has `tag` in `mode` and can give it back (`LOCALLOCKOWNER` in
-    /// lock.h).
+    /// How often `owner`, which is the session or the innermost level of its transaction, has `tag` in `mode`
+    /// and can give it back (`LOCALLOCKOWNER` in lock.h).
     pub fn owner_count(&self, tag: Tag, mode: Mode, owner: Owner) -> u16
         ensures { result ≡ own_count_of self.now.owned tag mode owner }
     {
         self.own.locals.owner_count(tag, mode, owner)
     }
 
-    /// Takes `tag` in `mode` for `owner`, or refuses at once where the request conflicts (`LockAcquire` in lock.c with `dontWait`). What the session has
-    /// already is counted once more, with no step on shared state. A weak mode on a relation of the session's database is granted in one of its fast-path
-    /// slots, unless all slots of the relation's group are in use or a strong lock is counted. Refused, in this order, where the owner's count is full, the
-    /// local table is full, memory runs out, or the request conflicts with a hold or wait of another session. After a refusal the session holds what it held.
+    /// Takes `tag` in `mode` for `owner`, or refuses at once where the request conflicts (`LockAcquire` in
+    /// lock.c with `dontWait`). What the session has already is counted once more, with no step on shared
+    /// state. A weak mode on a relation of the session's database is granted in one of its fast-path slots,
+    /// unless all slots of the relation's group are in use or a strong lock is counted. Refused, in this
+    /// order, where the owner's count is full, the local table is full, memory runs out, or the request
+    /// conflicts with a hold or wait of another session. After a refusal the session holds what it held.
     #[inline(always)]
     pub fn try_lock<R: Wait>(
         &mut self,
@@ -246,11 +252,12 @@ impl<T: PartTable, B: Board<T>> OwnSession<T, B> {
         }
     }
 
-    /// Takes `tag` in `mode` for `owner` in one of the session's fast-path slots, or refuses, and waits for nobody (`FastPathGrantRelationLock` in lock.c,
-    /// where the lock of the session's own slots is free). What the session has already is counted once more, in a slot or in the table, unless the owner's
-    /// count is full. Refused, in this order, where the mode on the object may not go by a slot, the local table is full, memory runs out, all sixteen slots
-    /// of the relation's group are in use, somebody has the lock of the session's own slots, or a strong lock is counted. After a refusal the session holds
-    /// what it held.
+    /// Takes `tag` in `mode` for `owner` in one of the session's fast-path slots, or refuses, and waits for
+    /// nobody (`FastPathGrantRelationLock` in lock.c, where the lock of the session's own slots is free).
+    /// What the session has already is counted once more, in a slot or in the table, unless the owner's count
+    /// is full. Refused, in this order, where the mode on the object may not go by a slot, the local table is
+    /// full, memory runs out, all sixteen slots of the relation's group are in use, somebody has the lock of
+    /// the session's own slots, or a strong lock is counted. After a refusal the session holds what it held.
     pub fn try_fast(&mut self, tag: Tag, mode: Mode, owner: Owner) -> Result<Acquired, Refusal>
         // What the call answers.
         ensures answers { AnswersByOwned self.old.owned tag mode owner Acquired.AlreadyHeld
@@ -274,8 +281,8 @@ impl<T: PartTable, B: Board<T>> OwnSession<T, B> {
         acquire_by_slot(&mut self.board, &mut self.own, tag, mode, owner)
     }
 
-    /// Gives one count of `owner` on `tag` in `mode` back, and with the session's last count the hold (`LockRelease` in lock.c). Refused where `owner` has no
-    /// count; nothing has changed after a refusal.
+    /// Gives one count of `owner` on `tag` in `mode` back, and with the session's last count the hold
+    /// (`LockRelease` in lock.c). Refused where `owner` has no count; nothing has changed after a refusal.
     #[inline(always)]
     pub fn unlock<R: Wait>(
         &mut self,
@@ -316,8 +323,9 @@ impl<T: PartTable, B: Board<T>> OwnSession<T, B> {
         }
     }
 
-    /// Ends a transaction that succeeded, with all its levels: what the transaction owns goes, and what the session owns stays (`LockReleaseAll` in lock.c
-    /// without `allLocks`). Holds are released in the order of making.
+    /// Ends a transaction that succeeded, with all its levels: what the transaction owns goes, and what the
+    /// session owns stays (`LockReleaseAll` in lock.c without `allLocks`). Holds are released in the order of
+    /// making.
     pub fn commit<R: Wait>(&mut self, rt: &R)
         ensures entries { self.new.owned.entries ≡ left_by End.Commit self.old.owned.entries }
         ensures none_ended { ended_by End.Commit self.old.owned.entries ≡ [] → self.new.board ≡ self.old.board }
@@ -332,8 +340,9 @@ impl<T: PartTable, B: Board<T>> OwnSession<T, B> {
         end_all(rt, &mut self.board, &mut self.own, End::Commit);
     }
 
-    /// Ends a transaction that failed, with all its levels: all that the transaction and the session own goes, but for the session's advisory locks, which
-    /// stay (`LockReleaseAll` in lock.c, with `allLocks` for the default lock method and without for the user method).
+    /// Ends a transaction that failed, with all its levels: all that the transaction and the session own
+    /// goes, but for the session's advisory locks, which stay (`LockReleaseAll` in lock.c, with `allLocks`
+    /// for the default lock method and without for the user method).
     pub fn abort<R: Wait>(&mut self, rt: &R)
         ensures entries { self.new.owned.entries ≡ left_by End.Abort self.old.owned.entries }
         ensures none_ended { ended_by End.Abort self.old.owned.entries ≡ [] → self.new.board ≡ self.old.board }
@@ -348,7 +357,8 @@ impl<T: PartTable, B: Board<T>> OwnSession<T, B> {
         end_all(rt, &mut self.board, &mut self.own, End::Abort);
     }
 
-    /// What the strong lock counter at `index` shows, by one load: how many strong locks are counted at that index (`FastPathStrongRelationLocks` in lock.c).
+    /// What the strong lock counter at `index` shows, by one load: how many strong locks are counted at that
+    /// index (`FastPathStrongRelationLocks` in lock.c).
     pub fn strong_count(&mut self, index: u16) -> u64
         requires exists { index < 1024 }
         ensures loaded { (B.view self.new.board).trace
@@ -363,8 +373,8 @@ impl<T: PartTable, B: Board<T>> OwnSession<T, B> {
 }
 
 impl<'a> OwnSession<Part, SeatBoard<'a, Part>> {
-    /// Has the session meet `other`, a session of the same manager, which comes back: no hold of the one conflicts with a hold of the other on an object.
-    /// Both sessions are as before.
+    /// Has the session meet `other`, a session of the same manager, which comes back: no hold of the one
+    /// conflicts with a hold of the other on an object. Both sessions are as before.
     pub fn meet(&mut self, other: Session<'a>) -> Session<'a>
         requires same_manager { let B = ⟦<SeatBoard<'a, Part> as Board<Part>>⟧ in
             (B.seat other.board).table ≡ (B.seat self.old.board).table }
@@ -379,8 +389,9 @@ impl<'a> OwnSession<Part, SeatBoard<'a, Part>> {
         OwnSession { board, own, parts }
     }
 
-    /// Ends the session: all that it holds is released, in the order of making, and its number is that of a closed
-    /// session from then on, which is not given out again (`ProcKill` in proc.c). Its trace goes to `opener`.
+    /// Ends the session: all that it holds is released, in the order of making, and its number is that of a
+    /// closed session from then on, which is not given out again (`ProcKill` in proc.c). Its trace goes to
+    /// `opener`.
     pub fn close<R: Wait>(self, rt: &R, opener: &mut Opener)
         requires own_opener { (⟦<SeatBoard<'a, Part> as Board<Part>>⟧.seat self.board).table ≡ opener.old.table }
         ensures closed { let B = ⟦<SeatBoard<'a, Part> as Board<Part>>⟧ in

@@ -11,7 +11,8 @@ use lock_table::PartTable;
 use modes_core::SessionId;
 use shared_rule::Board;
 
-/// Asks by `board` each session that there can be to cancel its wait, and wakes those that wait. The answer is how many waited.
+/// Asks by `board` each session that there can be to cancel its wait, and wakes those that wait. The answer
+/// is how many waited.
 fn ask_all_to_cancel<T: PartTable, B: Board<T>>(board: &mut B) -> u32
     requires few { (B.seat board.old).limit ≤ most_sessions }
     requires none_owed { (B.stack board.old).owed ≡ [] }
@@ -32,8 +33,9 @@ fn ask_all_to_cancel<T: PartTable, B: Board<T>>(board: &mut B) -> u32
 }
 
 impl<T: PartTable, B: Board<T>> OwnSession<T, B> {
-    /// Asks every session to cancel its wait, wakes those that wait, and answers how many they are, as the first step of a shut-down (`SignalSomeChildren` in
-    /// postmaster.c, which signals each backend). Each is asked as by `ask_cancel`: one that is granted first keeps the grant, and a wait that begins later
+    /// Asks every session to cancel its wait, wakes those that wait, and answers how many they are, as the
+    /// first step of a shut-down (`SignalSomeChildren` in postmaster.c, which signals each backend). Each is
+    /// asked as by `ask_cancel`: one that is granted first keeps the grant, and a wait that begins later
     /// isn't ended by the call. So a shut-down repeats the call until nobody waits.
     pub fn ask_all_to_cancel(&mut self) -> u32
         ensures asked { AsksAll (B.seat self.old.board).limit (B.view self.old.board) result (B.view self.new.board) }

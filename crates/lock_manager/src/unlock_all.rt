@@ -27,7 +27,8 @@ fn is_owned_advisory(entry: &Entry) -> bool
     }
 }
 
-/// The object and the mode of the first of the advisory locks that the session owns, by its local lock table `locals`, in the order of making.
+/// The object and the mode of the first of the advisory locks that the session owns, by its local lock table
+/// `locals`, in the order of making.
 fn first_advisory(locals: &LocalTable) -> Option<(Tag, Mode)>
     ensures none { IfNone result (find is_owned_advisory locals.now.entries ≡ None) }
     ensures first { IfSome result (λ key. (entry : records.Entry)
@@ -42,8 +43,9 @@ fn first_advisory(locals: &LocalTable) -> Option<(Tag, Mode)>
     None
 }
 
-/// Gives back, by `board`, all advisory locks that the session owns by its `own`, each as often as the session has it, in the order of making
-/// (`LockReleaseSession` in lock.c). The hold of a lock of which no count is left is released; the answer is how many holds were released.
+/// Gives back, by `board`, all advisory locks that the session owns by its `own`, each as often as the
+/// session has it, in the order of making (`LockReleaseSession` in lock.c). The hold of a lock of which no
+/// count is left is released; the answer is how many holds were released.
 fn unlock_all<T: PartTable, B: Board<T>, R: Wait>(rt: &R, board: &mut B, own: &mut Own) -> u32
     requires few_entries { own.old.locals.max_local ≤ 65536 }
     requires rest { IsAtRest (B.seat board.old).groups (B.seat board.old).limit own.old.database own.old.uses
@@ -77,9 +79,10 @@ fn unlock_all<T: PartTable, B: Board<T>, R: Wait>(rt: &R, board: &mut B, own: &m
 }
 
 impl<T: PartTable, B: Board<T>> OwnSession<T, B> {
-    /// Gives back all advisory locks that the session owns, each as often as the session has it (`pg_advisory_unlock_all` in lockfuncs.c, by
-    /// `LockReleaseSession` in lock.c). What its transaction has of these locks stays, and so does every other lock. Holds are released in the order of
-    /// making, and the answer is how many were released.
+    /// Gives back all advisory locks that the session owns, each as often as the session has it
+    /// (`pg_advisory_unlock_all` in lockfuncs.c, by `LockReleaseSession` in lock.c). What its transaction has
+    /// of these locks stays, and so does every other lock. Holds are released in the order of making, and the
+    /// answer is how many were released.
     pub fn unlock_all<R: Wait>(&mut self, rt: &R) -> u32
         ensures count { result ≡ length (unlocked_by_all self.old.owned.entries) }
         ensures entries { self.new.owned.entries ≡ left_by_unlock_all self.old.owned.entries }

@@ -45,8 +45,8 @@ pub enum Looked {
     CancelAsked,
 }
 
-/// Asks `other` to cancel its wait, and wakes it where it waits (`pg_cancel_backend` in signalfuncs.c). Where no session can have the number `other` the
-/// answer is `NotWaiting`, and nothing is done.
+/// Asks `other` to cancel its wait, and wakes it where it waits (`pg_cancel_backend` in signalfuncs.c). Where
+/// no session can have the number `other` the answer is `NotWaiting`, and nothing is done.
 pub fn ask_cancel<T: PartTable, B: Board<T>>(board: &mut B, other: SessionId) -> Asked
     requires none_owed { (B.stack board.old).owed ≡ [] }
     ensures asked { AsksOneOf (B.seat board.old).limit (B.view board.old) other result (B.view board.new) }
@@ -68,8 +68,8 @@ pub fn ask_cancel<T: PartTable, B: Board<T>>(board: &mut B, other: SessionId) ->
     Asked::Waiting
 }
 
-/// Whether somebody awaits `tag` in a mode that conflicts with `mode`, which the session has (`LockHasWaiters` in
-/// lock.c).
+/// Whether somebody awaits `tag` in a mode that conflicts with `mode`, which the session has
+/// (`LockHasWaiters` in lock.c).
 pub fn has_waiters<T: PartTable, B: Board<T>, R: Wait>(
     rt: &R,
     board: &mut B,
@@ -99,8 +99,9 @@ pub fn has_waiters<T: PartTable, B: Board<T>, R: Wait>(
     Ok(is_awaited)
 }
 
-/// Looks once at the session's wait for `mode` on `tag`. Where it was granted the wait ends, and the session has `mode` on `tag` for `owner`, in a local
-/// entry (`ProcSleep` in proc.c where it reads `waitStatus`, and `GrantLockLocal` in lock.c).
+/// Looks once at the session's wait for `mode` on `tag`. Where it was granted the wait ends, and the session
+/// has `mode` on `tag` for `owner`, in a local entry (`ProcSleep` in proc.c where it reads `waitStatus`, and
+/// `GrantLockLocal` in lock.c).
 pub fn poll<T: PartTable, B: Board<T>>(
     board: &mut B,
     own: &mut Own,
@@ -129,7 +130,8 @@ pub fn poll<T: PartTable, B: Board<T>>(
     take_up(board, own, tag, mode, owner, shown)
 }
 
-/// Takes up `shown`, what the session's own wait word showed: ends the wait for `mode` on `tag` where that was granted.
+/// Takes up `shown`, what the session's own wait word showed: ends the wait for `mode` on `tag` where that
+/// was granted.
 fn take_up<T: PartTable, B: Board<T>>(
     board: &mut B,
     own: &mut Own,
@@ -167,8 +169,9 @@ fn take_up<T: PartTable, B: Board<T>>(
     Looked::Still
 }
 
-/// Ends the session's wait for `mode` on `tag`: the wait is taken out of the wait queue, where it is still in it, and the waits that may go on after that are
-/// granted; where it had been granted before, the session has the mode (`LockErrorCleanup` in proc.c). The count of a strong mode goes back with the wait
+/// Ends the session's wait for `mode` on `tag`: the wait is taken out of the wait queue, where it is still in
+/// it, and the waits that may go on after that are granted; where it had been granted before, the session has
+/// the mode (`LockErrorCleanup` in proc.c). The count of a strong mode goes back with the wait
 /// (`AbortStrongLockAcquire` in lock.c). The answer is whether the wait had been granted.
 pub fn cancel<T: PartTable, B: Board<T>, R: Wait>(
     rt: &R,
@@ -203,8 +206,9 @@ pub fn cancel<T: PartTable, B: Board<T>, R: Wait>(
     false
 }
 
-/// Waits until the wait for `mode` on `tag` is granted, or another session asks to cancel it (`ProcSleep` in proc.c, with `LockErrorCleanup` where it is
-/// interrupted). The session looks at its own wait word before each sleep. Where the session was asked to cancel, and the grant was first, it has the mode.
+/// Waits until the wait for `mode` on `tag` is granted, or another session asks to cancel it (`ProcSleep` in
+/// proc.c, with `LockErrorCleanup` where it is interrupted). The session looks at its own wait word before
+/// each sleep. Where the session was asked to cancel, and the grant was first, it has the mode.
 pub fn wait<T: PartTable, B: Board<T>, R: Wait>(
     rt: &R,
     board: &mut B,
@@ -286,8 +290,9 @@ pub fn lock<T: PartTable, B: Board<T>, R: Wait>(
     }
 }
 
-/// Takes the wait for `mode` on `tag` out of the wait queue in the object's partition, or finds in that partition that it was granted (`RemoveFromWaitQueue`
-/// in lock.c). The answer is whether the wait was granted.
+/// Takes the wait for `mode` on `tag` out of the wait queue in the object's partition, or finds in that
+/// partition that it was granted (`RemoveFromWaitQueue` in lock.c). The answer is whether the wait was
+/// granted.
 fn leave_in_part<T: PartTable, B: Board<T>, R: Wait>(
     rt: &R,
     board: &mut B,

@@ -1,4 +1,5 @@
-//! Calls that may wait: a session that has begun to wait is a value of its own, which has the calls of a waiting one.
+//! Calls that may wait: a session that has begun to wait is a value of its own, which has the calls of a
+//! waiting one.
 
 ghost use Rattle.std.specs.Prelude.{◌≤◌, ◌≡◌, ◌↔◌, false, true, IsErrOf, IsOkUnless, IfOk, IfErr, OnOk, OnErr};
 ghost use Rattle.local_locks.specs.Owned.{has_entry, with_one_more};
@@ -33,9 +34,10 @@ use wait_queue::Kind;
 /// A session of a manager that waits.
 pub type Waiting<'a> = OwnWaiting<Part, SeatBoard<'a, Part>>;
 
-/// A session that waits, over any board and any keeper of the partitions: it can make no call but those of its wait. Such a session is given up only to one
-/// of these calls: the compiler refuses code that drops one, which would be in the wait queue for ever. Contracts see its board, its database, what it owns,
-/// and what it waits for.
+/// A session that waits, over any board and any keeper of the partitions: it can make no call but those of
+/// its wait. Such a session is given up only to one of these calls: the compiler refuses code that drops one,
+/// which would be in the wait queue for ever. Contracts see its board, its database, what it owns, and what
+/// it waits for.
 pub struct OwnWaiting<T: PartTable, B: Board<T>> {
     board: B,
     own: Box<Own>,
@@ -126,12 +128,12 @@ pub enum Waited<S> {
 }
 
 impl<T: PartTable, B: Board<T>> OwnSession<T, B> {
-    /// Takes `tag` in `mode` for `owner`, or begins to wait for it (`LockAcquire` in lock.c without `dontWait`, up
-    /// to where `ProcSleep` in proc.c has joined the queue). What the session has already is counted once more, with
-    /// no step on shared state. Refused, in this order, where the owner's count is full, the local table is full,
-    /// memory runs out, or the wait would close a simple deadlock. After a refusal the session holds what it held.
-    /// There is no timeout: a time limit is this call, then `poll`, and an `ask_cancel` of another session or
-    /// `cancel` when it is over.
+    /// Takes `tag` in `mode` for `owner`, or begins to wait for it (`LockAcquire` in lock.c without
+    /// `dontWait`, up to where `ProcSleep` in proc.c has joined the queue). What the session has already is
+    /// counted once more, with no step on shared state. Refused, in this order, where the owner's count is
+    /// full, the local table is full, memory runs out, or the wait would close a simple deadlock. After a
+    /// refusal the session holds what it held. There is no timeout: a time limit is this call, then `poll`,
+    /// and an `ask_cancel` of another session or `cancel` when it is over.
     pub fn start<R: Wait>(
         self,
         rt: &R,
@@ -184,8 +186,9 @@ impl<T: PartTable, B: Board<T>> OwnSession<T, B> {
         }
     }
 
-    /// Takes `tag` in `mode` for `owner`, and waits for it where it must (`LockAcquire` in lock.c without `dontWait`): `start`, and `wait` where that queued
-    /// the request. Refused where one of these two is; after a refusal the wait is over, and the session holds what it held.
+    /// Takes `tag` in `mode` for `owner`, and waits for it where it must (`LockAcquire` in lock.c without
+    /// `dontWait`): `start`, and `wait` where that queued the request. Refused where one of these two is;
+    /// after a refusal the wait is over, and the session holds what it held.
     pub fn lock<R: Wait>(self, rt: &R, tag: Tag, mode: Mode, owner: Owner) -> Locked<Self>
         // What the call answers.
         ensures answers { AnswersByOwned self.owned tag mode owner Acquired.AlreadyHeld true (answer_locked result) }
@@ -222,9 +225,9 @@ impl<T: PartTable, B: Board<T>> OwnSession<T, B> {
         }
     }
 
-    /// Takes `tag` in `mode` for `owner` as `lock` does, on a session that is lent, so that `?` works at its answer
-    /// (`LockAcquire` in lock.c without `dontWait`). The session waits where it must, and can make no other call
-    /// meanwhile.
+    /// Takes `tag` in `mode` for `owner` as `lock` does, on a session that is lent, so that `?` works at its
+    /// answer (`LockAcquire` in lock.c without `dontWait`). The session waits where it must, and can make no
+    /// other call meanwhile.
     pub fn acquire<R: Wait>(
         &mut self,
         rt: &R,
@@ -255,8 +258,8 @@ impl<T: PartTable, B: Board<T>> OwnSession<T, B> {
         waiting::lock(rt, &mut self.board, &mut self.own, tag, mode, owner)
     }
 
-    /// Whether somebody awaits `tag` in a mode that conflicts with `mode` (`LockHasWaiters` in lock.c). Refused where the session hasn't `mode` on `tag`;
-    /// nothing has changed after a refusal.
+    /// Whether somebody awaits `tag` in a mode that conflicts with `mode` (`LockHasWaiters` in lock.c).
+    /// Refused where the session hasn't `mode` on `tag`; nothing has changed after a refusal.
     pub fn has_waiters<R: Wait>(&mut self, rt: &R, tag: Tag, mode: Mode) -> Result<bool, Refusal>
         // What the call answers.
         ensures not_held { IsErrOf result Refusal.NotHeld ↔ (has_entry self.old.owned.entries tag mode ≡ false) }
@@ -274,9 +277,10 @@ impl<T: PartTable, B: Board<T>> OwnSession<T, B> {
         waiting::has_waiters(rt, &mut self.board, &self.own, tag, mode)
     }
 
-    /// Asks `other` to cancel its wait, and wakes it where it waits (`pg_cancel_backend` in signalfuncs.c). Where `other` doesn't wait the request leaves
-    /// nothing behind; a session that asks itself doesn't wait. An asked session that is granted first keeps the grant. Where no session of the manager can
-    /// have the number `other` the answer is `NotWaiting`, and the call makes no step.
+    /// Asks `other` to cancel its wait, and wakes it where it waits (`pg_cancel_backend` in signalfuncs.c).
+    /// Where `other` doesn't wait the request leaves nothing behind; a session that asks itself doesn't wait.
+    /// An asked session that is granted first keeps the grant. Where no session of the manager can have the
+    /// number `other` the answer is `NotWaiting`, and the call makes no step.
     pub fn ask_cancel(&mut self, other: SessionId) -> Asked
         ensures asked { AsksOneOf (B.seat self.old.board).limit (B.view self.old.board) other result
             (B.view self.new.board) }
@@ -292,8 +296,8 @@ impl<T: PartTable, B: Board<T>> OwnSession<T, B> {
 }
 
 impl<T: PartTable, B: Board<T>> OwnWaiting<T, B> {
-    /// Looks at the session's wait once (`ProcSleep` in proc.c where it reads `waitStatus`): the wait was granted, and has ended, or it goes on, and another
-    /// session may have asked to cancel it.
+    /// Looks at the session's wait once (`ProcSleep` in proc.c where it reads `waitStatus`): the wait was
+    /// granted, and has ended, or it goes on, and another session may have asked to cancel it.
     pub fn poll(self) -> Polled<OwnSession<T, B>, Self>
         // What the call answers.
         ensures polled { Polls (B.seat self.board).number (B.view self.board).trace (answer_polled result)
@@ -335,8 +339,9 @@ impl<T: PartTable, B: Board<T>> OwnWaiting<T, B> {
         }
     }
 
-    /// Ends the session's wait (`LockErrorCleanup` in proc.c): the wait is taken out of the wait queue, and the waits that may go on after that are granted;
-    /// or it turns out that it was granted before, and the session has the mode.
+    /// Ends the session's wait (`LockErrorCleanup` in proc.c): the wait is taken out of the wait queue, and
+    /// the waits that may go on after that are granted; or it turns out that it was granted before, and the
+    /// session has the mode.
     pub fn cancel<R: Wait>(self, rt: &R) -> Cancelled<OwnSession<T, B>>
         // What the call answers.
         ensures steps { Cancels (B.seat self.board).number (B.view self.board).trace self.tag self.mode
@@ -364,9 +369,10 @@ impl<T: PartTable, B: Board<T>> OwnWaiting<T, B> {
         Cancelled::Removed(OwnSession { board, own, parts })
     }
 
-    /// Waits until the session's wait is granted, or another session asks to cancel it (`ProcSleep` in proc.c, with `LockErrorCleanup` where it is
-    /// interrupted). The only refusal is `Cancelled`: the session is out of the wait queue after it, and holds what it held. Where the session was asked to
-    /// cancel, but the grant was first, it has the mode.
+    /// Waits until the session's wait is granted, or another session asks to cancel it (`ProcSleep` in
+    /// proc.c, with `LockErrorCleanup` where it is interrupted). The only refusal is `Cancelled`: the session
+    /// is out of the wait queue after it, and holds what it held. Where the session was asked to cancel, but
+    /// the grant was first, it has the mode.
     pub fn wait<R: Wait>(self, rt: &R) -> Waited<OwnSession<T, B>>
         // What the call answers.
         ensures cancelled { IsOkUnless (answer_waited result) Refusal.Cancelled }

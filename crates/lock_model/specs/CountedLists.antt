@@ -12,7 +12,8 @@ use Rattle.lock_model.specs.declared.machine.state.Machine.{Machine}
 use Rattle.lock_model.specs.Shows.{counted_from, makes_steps, awaits}
 use Rattle.lock_model.specs.SlotLooks.{slots_hold}
 
--- The list of all strong locks that sessions have counted, and what the machine looks at before a step on counters.
+-- The list of all strong locks that sessions have counted, and what the machine looks at before a step on
+-- counters.
 
 -- whether a counted strong lock is the session's, for the mode on the object
 abbrev pub is_by : ℕ → Tag → Mode → CountedBy → Bool
@@ -34,7 +35,8 @@ counter machine index = count_by (λ c. index_of c.tag == index) machine.counted
 abbrev pub holds_fast : Machine → ℕ → ℕ → Bool
 holds_fast machine session owner = slice_index_or (slice_index_or machine.locks.fast_holders owner []) session false
 
--- whether the session may be granted the mode on the object, or await it: a strong one must be counted, and past each session
+-- whether the session may be granted the mode on the object, or await it: a strong one must be counted, and
+-- past each session
 abbrev pub counted_for : Machine → ℕ → Tag → Mode → Bool
 counted_for machine session tag mode = not (is_strong_on tag mode) || list_any (is_by_at session 64 tag mode) machine.counted.items
 

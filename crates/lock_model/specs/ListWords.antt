@@ -13,7 +13,8 @@ may_lock_list machine session = makes_steps machine session && is_none (slice_in
 abbrev pub has_list : Machine → ℕ → ℕ → Bool
 has_list machine session lock = makes_steps machine session && is_number lock (slice_index_or machine.lists.has_list session None)
 
--- what the word says once its wait list is unlocked: has-waiters and release-ok remain set only where they are to
+-- what the word says once its wait list is unlocked: has-waiters and release-ok remain set only where they
+-- are to
 abbrev pub unlocked_in : LockState → Bool → Bool → LockState
 unlocked_in state has_waiters release_ok =
     record state { list_locked = false; has_waiters = has_waiters && state.has_waiters; release_ok = release_ok && state.release_ok }

@@ -88,9 +88,9 @@ StandsAt w session tag mode (spot.Slot place) = IsHeldIn (w.words.database sessi
 abbrev pub StandsThere : World → Hold → Type 0
 StandsThere w hold = StandsAt w hold.session hold.tag hold.mode hold.spot
 
--- The answer of a run says what the World has: each hold once, of slots and of contents, and where it is, each
--- object's waits in the order of its queue, the waits in the order of their tags, how many groups of slots there were, what
--- each word shows, and who waits for each lightweight lock.
+-- The answer of a run says what the World has: each hold once, of slots and of contents, and where it is,
+-- each object's waits in the order of its queue, the waits in the order of their tags, how many groups of
+-- slots there were, what each word shows, and who waits for each lightweight lock.
 pub record IsPlainOf (plain : Plain) (w : World) : Type 0 where
   pub holds : ListsHolds (holds_of plain) (all_holds w)
   pub spots : All (λ hold. StandsThere w hold) (holds_of plain)

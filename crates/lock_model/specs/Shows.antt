@@ -93,7 +93,8 @@ pub record ShowsLock (shown : LockState) (word : ℕ) : Type 0 where
   pub says : shown ≡ state_of word
   pub is_word : IsLightweightWord word
 
--- The words show what they show in the World. A wait word is there of each session that has a number, since any may be asked to cancel.
+-- The words show what they show in the World. A wait word is there of each session that has a number, since
+-- any may be asked to cancel.
 pub record ShowsWords (shown : Words) (words : world.Words) : Type 0 where
   pub sixty_four_fast : length shown.fast ≡ 64
   pub all_waits : length shown.waits ≡ most_sessions
@@ -107,7 +108,8 @@ pub record ShowsMarks (shown : List (List Bool)) (locks : ℕ) (has : ℕ → �
   pub sixty_four : (lock : ℕ) → lock < locks → length (slice_index_or shown lock []) ≡ 64
   pub mark : (session lock : ℕ) → slice_index_or (slice_index_or shown lock []) session false ≡ has session lock
 
--- Who has the lightweight locks of fast-path slots, exclusively or shared, and who shares those of partitions is as in the World.
+-- Who has the lightweight locks of fast-path slots, exclusively or shared, and who shares those of partitions
+-- is as in the World.
 pub record ShowsLocks (shown : Locks) (holds_fast shares_fast shares_partition : ℕ → ℕ → Bool) : Type 0 where
   pub fast_holders : ShowsMarks shown.fast_holders 64 holds_fast
   pub fast_sharers : ShowsMarks shown.fast_sharers 64 shares_fast
@@ -144,7 +146,8 @@ pub record ShowsContents (shown : Contents) (contents : world.Contents) : Type 0
   pub now : (p : ℕ) → p < 16 → contents_in shown.parts.items p ≡ contents.now p
   pub none_begun : (p : ℕ) → (part_at shown.parts.items p).begun ≡ None
 
--- The sessions' waits by their own account are the World's: what each awaits, and whether it has seen its grant.
+-- The sessions' waits by their own account are the World's: what each awaits, and whether it has seen its
+-- grant.
 pub record ShowsWaits (shown : OwnWaits) (wait : ℕ → Option OwnWait) (has_seen : ℕ → Bool) : Type 0 where
   pub sixty_four : length shown.awaited ≡ 64
   pub sixty_four_seen : length shown.seen ≡ 64
@@ -155,8 +158,8 @@ pub record ShowsWaits (shown : OwnWaits) (wait : ℕ → Option OwnWait) (has_se
 abbrev pub waiters_of : ℕ → List Sleeper → List LwWaiter
 waiters_of lock list = map (λ (sleeper : Sleeper). sleeper.waiter) (filter (λ (sleeper : Sleeper). sleeper.lock == lock) list)
 
--- The wait lists and the sleep words are the World's, and so is what each session knows of lists: the one that it has locked, the one
--- that it is in, and whom it took off.
+-- The wait lists and the sleep words are the World's, and so is what each session knows of lists: the one
+-- that it has locked, the one that it is in, and whom it took off.
 pub record ShowsLists (shown : Lists) (words : ℕ → ℕ) (lists : ℕ → List LwWaiter)
     (have stand : ℕ → Option ℕ) (taken : ℕ → ℕ → Bool) : Type 0 where
   pub sixty_four : length shown.sleep ≡ 64
@@ -170,8 +173,8 @@ pub record ShowsLists (shown : Lists) (words : ℕ → ℕ) (lists : ℕ → Lis
   pub stands : (session : ℕ) → slice_index_or shown.stands session None ≡ stand session
   pub off : (session other : ℕ) → slice_index_or (slice_index_or shown.off session []) other false ≡ taken session other
 
--- What the machine keeps is what the World has. It keeps no own holds: a session's own are those that its slots show, and
--- those of the contents but what it awaits.
+-- What the machine keeps is what the World has. It keeps no own holds: a session's own are those that its
+-- slots show, and those of the contents but what it awaits.
 pub record Shows (machine : Machine) (w : World) : Type 0 where
   pub numbers : ShowsNumbers machine.numbers w.numbers
   pub words : ShowsWords machine.words w.words
@@ -250,7 +253,8 @@ IsWaking (Release tag mode) = Unit {0}
 IsWaking (Leave tag) = Unit {0}
 IsWaking (Adopt owner slot) = ⊥
 
--- What a release asks of the session's account beside the hold: that it is no grant which it hasn't taken over.
+-- What a release asks of the session's account beside the hold: that it is no grant which it hasn't taken
+-- over.
 abbrev pub IsOwnFor : Option Awaited → Move → Type 0
 IsOwnFor awaited Keep = Unit {0}
 IsOwnFor awaited (Grant tag mode) = Unit {0}
@@ -272,13 +276,14 @@ CannotMake awaited content session (Adopt owner slot) = Unit {0}
 abbrev pub ShowsSafe : Machine → Type 0
 ShowsSafe machine = (w : World) × SafeWorld w × Shows machine w
 
--- Whatever safe World the machine showed, the event of the session leads on from it to one that the machine shows now.
+-- Whatever safe World the machine showed, the event of the session leads on from it to one that the machine
+-- shows now.
 abbrev pub Follows : Machine → ℕ → Step → Machine → Type 0
 Follows old session step new =
     (w : World) → SafeWorld w → Shows old w → (v : World) × Next w (record { session = session; step = step }) v × Shows new v
 
--- Whatever safe World the machine showed, marking the other session's wait granted, by a move in the partition, leads on from it to one
--- that the machine shows now.
+-- Whatever safe World the machine showed, marking the other session's wait granted, by a move in the
+-- partition, leads on from it to one that the machine shows now.
 abbrev pub FollowsMarking : Machine → ℕ → ℕ → ℕ → Move → Machine → Type 0
 FollowsMarking old session other p done new =
     (w : World) → SafeWorld w → Shows old w →

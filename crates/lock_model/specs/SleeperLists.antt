@@ -5,7 +5,8 @@ use Rattle.lock_model.specs.declared.machine.state.Sleeper.{Sleeper}
 use Rattle.lock_model.specs.declared.machine.state.Machine.{Machine}
 use Rattle.lock_model.specs.Shows.{makes_steps}
 
--- The list of all who wait for any lightweight lock, and what the machine looks at before a step on wait lists.
+-- The list of all who wait for any lightweight lock, and what the machine looks at before a step on wait
+-- lists.
 
 -- whether the session waits for this lock
 abbrev pub is_at : ℕ → ℕ → Sleeper → Bool

@@ -21,7 +21,8 @@ slots_hold machine session tag mode =
     slot_holds (slice_index_or machine.fast_path.databases session 0)
     (λ place. slice_index_or (slice_index_or machine.fast_path.slots session []) place 0) tag mode
 
--- whether the session may ask for the mode on the object: it waits for nothing, and hasn't the hold, in no content and no slot
+-- whether the session may ask for the mode on the object: it waits for nothing, and hasn't the hold, in no
+-- content and no slot
 abbrev pub may_ask : Machine → ℕ → Tag → Mode → Bool
 may_ask machine session tag mode =
     (is_none (slice_index_or machine.waits.awaited session None)
@@ -33,8 +34,8 @@ abbrev pub has_own_slots : Machine → ℕ → Bool
 has_own_slots machine session =
     makes_steps machine session && slice_index_or (slice_index_or machine.locks.fast_holders session []) session false
 
--- whether a grant for the relation takes the slot, with this number of groups: it is of the relation's group, and in use for the
--- relation, or not in use and none is for it
+-- whether a grant for the relation takes the slot, with this number of groups: it is of the relation's group,
+-- and in use for the relation, or not in use and none is for it
 abbrev pub is_slot_to_grant : ℕ → List ℕ → ℕ → ℕ → Bool
 is_slot_to_grant groups slots relation place =
     may_use groups relation place

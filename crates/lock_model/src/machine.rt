@@ -34,10 +34,10 @@ use state::Machine;
 pub use state::Sleeper;
 use std::alloc::Global;
 
-/// Runs the events `events` from the opening World of 64 sessions, one after another. Each session has `groups` groups
-/// of fast-path slots, 1 to 8. An event that is not lawful where it comes is skipped: so is each of a session numbered
-/// 64 or above, and each on such a session's lock, slots, seat or sleep word. The World after them, and each one on the
-/// way, is safe.
+/// Runs the events `events` from the opening World of 64 sessions, one after another. Each session has
+/// `groups` groups of fast-path slots, 1 to 8. An event that is not lawful where it comes is skipped: so is
+/// each of a session numbered 64 or above, and each on such a session's lock, slots, seat or sleep word. The
+/// World after them, and each one on the way, is safe.
 pub fn run_events(alloc: Global, groups: u8, events: &[Event]) -> Result<Plain, NoMemory>
     requires some { 1 ≤ groups }
     requires few { groups ≤ most_groups }

@@ -13,7 +13,8 @@ use Rattle.modes_core.specs.Sessions.{most_sessions}
 abbrev pub requested_of : Content → Tag → Mode → ℕ
 requested_of content tag mode = granted_of content.holds tag mode + awaited_of (content.waits tag) mode
 
--- The counts are those of the object in the content, and the masks have the modes with a hold and with a wait.
+-- The counts are those of the object in the content, and the masks have the modes with a hold and with a
+-- wait.
 pub record AreCountsOf (content : Content) (tag : Tag) (counts : Counts) : Type 0 where
   pub granted : (mode : Mode) → slice_index counts.granted (number_of mode) ≡ granted_of content.holds tag mode
   pub requested : (mode : Mode) → slice_index counts.requested (number_of mode) ≡ requested_of content tag mode

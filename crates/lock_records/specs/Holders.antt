@@ -45,7 +45,8 @@ abbrev pub IsIn : ℕ → List ℕ → Type 0
 IsIn k [] = ⊥
 IsIn k (x ∷ xs) = (k ≡ x) ⊎ IsIn k xs
 
--- The list is of places of the object's records, from this place on: each record notes the next place, and no place comes twice.
+-- The list is of places of the object's records, from this place on: each record notes the next place, and no
+-- place comes twice.
 abbrev pub IsChain : List (Option HolderRecord) → Tag → ℕ → List ℕ → Type 0
 IsChain slots tag at [] = Unit {0}
 IsChain slots tag at (k ∷ ks) =

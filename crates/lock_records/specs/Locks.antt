@@ -46,7 +46,8 @@ abbrev pub note_times : Option LockRecord → ℕ → ℕ
 note_times None key = 0
 note_times (Some lock) key = if key == key_of lock.tag then 1 else 0
 
--- Each lock record is noted in the index under its object's key, and nothing else is; an object has one record at most.
+-- Each lock record is noted in the index under its object's key, and nothing else is; an object has one
+-- record at most.
 pub record AreNoted (slots : List (Option LockRecord)) (index : Notes) : Type 0 where
   pub noted : (place key : ℕ) → times index key place ≡ note_times (lock_at slots place) key
   pub once : (tag : Tag) (k j : ℕ) → IsLockAt slots tag k → IsLockAt slots tag j → k ≡ j

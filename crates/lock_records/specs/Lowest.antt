@@ -6,8 +6,8 @@ use Rattle.modes_core.specs.ModeSet.{set_has, all_modes}
 use Rattle.lock_table.specs.Content.{Holds}
 use Rattle.lock_records.specs.declared.holders.HolderRecord.{HolderRecord}
 
--- What was found of the holders in the way of a request: the session with the lowest number, other than this one, that holds
--- the object in a mode of the set, with the modes that it holds; or that there is none.
+-- What was found of the holders in the way of a request: the session with the lowest number, other than this
+-- one, that holds the object in a mode of the set, with the modes that it holds; or that there is none.
 abbrev pub IsLowestHolder : Holds → ℕ → Tag → (Mode → Bool) → Option (ℕ × ℕ) → Type 0
 IsLowestHolder holds session tag set None = (other : ℕ) (mode : Mode) → other ≢ session → holds other tag mode ≡ true → set mode ≡ false
 IsLowestHolder holds session tag set (Some lowest) =

@@ -22,7 +22,8 @@ pub record IsHeldLock (holders : List (Option HolderRecord)) (tag : Tag) (lock :
   pub chain : IsHolderChain holders tag lock.holders.first lock.holders.count
   pub granted : (mode : Mode) → counts_in lock.granted mode ≡ granted_of (holds_in holders) tag mode
 
--- The lock record has all holder records of the object in its chain, and counts its holds and the waits of its queue.
+-- The lock record has all holder records of the object in its chain, and counts its holds and the waits of
+-- its queue.
 pub record IsLock (holders : List (Option HolderRecord)) (queue : List Wait) (tag : Tag) (lock : LockRecord) : Type 0 where
   pub held : IsHeldLock holders tag lock
   pub awaited : (mode : Mode) → counts_in lock.awaited mode ≡ awaited_of queue mode
@@ -37,7 +38,8 @@ pub record IsQueue (holders : List (Option HolderRecord)) (queue : List Wait) (t
   pub below : (session : ℕ) → waits_there queue session ≡ true → session < most_sessions
   pub apart : (session : ℕ) (mode : Mode) → awaits_mode queue session mode ≡ true → holds_in holders session tag mode ≡ false
 
--- The records of one object: its lock record is right and not empty, and there is one where there is a holder record or a wait.
+-- The records of one object: its lock record is right and not empty, and there is one where there is a holder
+-- record or a wait.
 pub record IsObject (locks : List (Option LockRecord)) (holders : List (Option HolderRecord)) (queue : List Wait) (tag : Tag) : Type 0 where
   pub lock : (place : ℕ) (i : IsLockAt locks tag place) → IsLock holders queue tag i.lock
   pub used : (place : ℕ) → IsLockAt locks tag place → IsUsed holders queue tag

@@ -60,8 +60,8 @@ pub record AreQueues (slots : List (Option QueueRecord)) : Type 0 where
   pub once : (tag : Tag) (k j : ℕ) → IsQueueAt slots tag k → IsQueueAt slots tag j → k ≡ j
   pub some : (tag : Tag) (place : ℕ) (i : IsQueueAt slots tag place) → i.queue.waiters.items ≢ []
 
--- what contracts see of the queue records: the records by their places, for how many there is room, and for how many waits there is room in the
--- queue that the next new record takes
+-- what contracts see of the queue records: the records by their places, for how many there is room, and for
+-- how many waits there is room in the queue that the next new record takes
 pub record QueuesView : Type 0 where
   pub slots : List (Option QueueRecord)
   pub capacity : ℕ
@@ -72,7 +72,8 @@ pub record HasSameRoom (old new : QueuesView) : Type 0 where
   pub records : new.capacity ≡ old.capacity
   pub waits : new.spare + room_in new.slots ≡ old.spare + room_in old.slots
 
--- There is room for as many records as before, and for no more waits than before, in queues and in the spare one together.
+-- There is room for as many records as before, and for no more waits than before, in queues and in the spare
+-- one together.
 pub record HasNoMoreRoom (old new : QueuesView) : Type 0 where
   pub records : new.capacity ≡ old.capacity
   pub waits : new.spare + room_in new.slots ≤ old.spare + room_in old.slots

@@ -30,8 +30,9 @@ view_of part = record {
   };
 }
 
--- The records of each object are right, the index finds the lock records, and there is room for the hold that each wait becomes, and for the
--- name of each who waits among those woken; a begun request is new, and has room. Where it is noted so, its object has no record, or its record stands at the hint.
+-- The records of each object are right, the index finds the lock records, and there is room for the hold that
+-- each wait becomes, and for the name of each who waits among those woken; a begun request is new, and has
+-- room. Where it is noted so, its object has no record, or its record stands at the hint.
 pub record AreRecords (part : Inside) : Type 0 where
   pub objects : AreObjects part.locks.slots part.holders.slots part.queues.slots
   pub noted : AreNoted part.locks.slots part.index

@@ -16,12 +16,13 @@ one_more counts mode = put mode_eq counts mode (counts mode + 1)
 abbrev pub one_less : (Mode → ℕ) → Mode → Mode → ℕ
 one_less counts mode = put mode_eq counts mode (counts mode - 1)
 
--- how many of one mode a tally can count: more than there are sessions at most, and few enough for the sums of all modes of two
--- tallies together to have 16 bits
+-- how many of one mode a tally can count: more than there are sessions at most, and few enough for the sums
+-- of all modes of two tallies together to have 16 bits
 abbrev pub most_tallied : ℕ
 most_tallied = 2047
 
--- What a tally keeps: place 0 of its list is unused, it knows the sum, and its mask has the modes of which there is one.
+-- What a tally keeps: place 0 of its list is unused, it knows the sum, and its mask has the modes of which
+-- there is one.
 pub record IsTally (by_mode : List ℕ) (total mask : ℕ) : Type 0 where
   pub unused : slice_index by_mode 0 ≡ 0
   pub nine : length by_mode ≡ 9

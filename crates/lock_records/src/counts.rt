@@ -8,9 +8,9 @@ ghost use Rattle.lock_records.specs.Counting.{total_of};
 use crate::locks::LockRecord;
 use modes_core::ModeSet;
 
-/// How often an object is held and requested (`nGranted`, `granted`, `nRequested` and `requested` of `LOCK` in
-/// lock.h): in each lock mode, by the mode's number, and in all modes together; and the masks of the modes with a
-/// hold and with a wait. Place 0 of the lists is unused.
+/// How often an object is held and requested (`nGranted`, `granted`, `nRequested` and `requested` of `LOCK`
+/// in lock.h): in each lock mode, by the mode's number, and in all modes together; and the masks of the modes
+/// with a hold and with a wait. Place 0 of the lists is unused.
 #[derive(Clone, Copy)]
 pub struct Counts {
     pub requested: [u16; 9],

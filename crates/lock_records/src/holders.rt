@@ -11,8 +11,8 @@ use crate::sets::has_some;
 use modes_core::{Mode, ModeSet, SessionId, Tag};
 use slab::Slab;
 
-/// The lock modes in which a session holds an object (`PROCLOCK` in lock.h, with its `holdMask`), and the place of
-/// the object's next holder record.
+/// The lock modes in which a session holds an object (`PROCLOCK` in lock.h, with its `holdMask`), and the
+/// place of the object's next holder record.
 #[derive(Clone, Copy)]
 pub struct HolderRecord {
     pub tag: Tag,
@@ -21,16 +21,16 @@ pub struct HolderRecord {
     pub session: SessionId,
 }
 
-/// The chain of an object's holder records: how many there are, and the place of the first one (`procLocks` of `LOCK`
-/// in lock.h).
+/// The chain of an object's holder records: how many there are, and the place of the first one (`procLocks`
+/// of `LOCK` in lock.h).
 #[derive(Clone, Copy)]
 pub struct Holders {
     pub first: usize,
     pub count: u16,
 }
 
-/// The place in `slots` of the holder record of `session` on `tag`, looked for in the chain `holders`, if there is
-/// one.
+/// The place in `slots` of the holder record of `session` on `tag`, looked for in the chain `holders`, if
+/// there is one.
 #[inline(always)]
 pub(crate) fn find_holder(
     slots: &Slab<HolderRecord>,
@@ -53,7 +53,8 @@ pub(crate) fn find_holder(
     None
 }
 
-/// A number above those of all sessions that have a holder record of `tag` in `slots`, in the chain `holders`.
+/// A number above those of all sessions that have a holder record of `tag` in `slots`, in the chain
+/// `holders`.
 pub(crate) fn above_holders(slots: &Slab<HolderRecord>, holders: Holders, tag: &Tag) -> u16
     requires chain { IsHolderChain slots.now.slots tag.now holders.first holders.count }
     requires are { AreHolders slots.now.slots tag.now }
@@ -71,8 +72,8 @@ pub(crate) fn above_holders(slots: &Slab<HolderRecord>, holders: Holders, tag: &
     above
 }
 
-/// Adds `mode`, in which `session` doesn't hold `tag`, to the session's holder record of `tag` in `slots`. Where
-/// there is none, one is made, at the head of the chain `holders`.
+/// Adds `mode`, in which `session` doesn't hold `tag`, to the session's holder record of `tag` in `slots`.
+/// Where there is none, one is made, at the head of the chain `holders`.
 #[inline(always)]
 pub(crate) fn raise_holder(
     slots: &mut Slab<HolderRecord>,
@@ -99,8 +100,8 @@ pub(crate) fn raise_holder(
     }
 }
 
-/// Makes the holder record of `session` on `tag`, which has none, with `mode`, at the head of the chain `holders` in
-/// `slots`.
+/// Makes the holder record of `session` on `tag`, which has none, with `mode`, at the head of the chain
+/// `holders` in `slots`.
 #[inline(always)]
 fn put_holder(
     slots: &mut Slab<HolderRecord>,
@@ -129,8 +130,8 @@ fn put_holder(
     holders.count += 1;
 }
 
-/// Takes `mode` out of the holder record of `session` on `tag` in `slots`; with its last mode the record goes out of
-/// the chain `holders`.
+/// Takes `mode` out of the holder record of `session` on `tag` in `slots`; with its last mode the record goes
+/// out of the chain `holders`.
 #[inline(always)]
 pub(crate) fn lower_holder(
     slots: &mut Slab<HolderRecord>,
@@ -158,8 +159,8 @@ pub(crate) fn lower_holder(
     }
 }
 
-/// Takes the holder record of `session` on `tag`, at `place` of `slots`, out of the chain `holders`: the slot at the
-/// head of the chain becomes empty, and its session and modes are moved to `place`.
+/// Takes the holder record of `session` on `tag`, at `place` of `slots`, out of the chain `holders`: the slot
+/// at the head of the chain becomes empty, and its session and modes are moved to `place`.
 #[inline(always)]
 fn take_holder(
     slots: &mut Slab<HolderRecord>,
@@ -188,8 +189,9 @@ fn take_holder(
     gap.modes = head.modes;
 }
 
-/// The session with the lowest number, other than `session`, that holds `tag` in one of the modes of `set`, with all
-/// the modes in which that session holds `tag`. Its holder record in `slots` is looked for in the chain `holders`.
+/// The session with the lowest number, other than `session`, that holds `tag` in one of the modes of `set`,
+/// with all the modes in which that session holds `tag`. Its holder record in `slots` is looked for in the
+/// chain `holders`.
 #[inline(always)]
 pub(crate) fn lowest_holder(
     slots: &Slab<HolderRecord>,
@@ -212,8 +214,8 @@ pub(crate) fn lowest_holder(
     lowest
 }
 
-/// The session with the lower number: that of `lowest`, found so far, or that of `holder`, where this is another one
-/// than `session` and holds a mode of `set`; with its modes.
+/// The session with the lower number: that of `lowest`, found so far, or that of `holder`, where this is
+/// another one than `session` and holds a mode of `set`; with its modes.
 #[inline(always)]
 fn considered(
     lowest: Option<(SessionId, ModeSet)>,

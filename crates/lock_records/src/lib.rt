@@ -1,5 +1,5 @@
-//! A partition of the lock table as lock.c keeps it: a lock record for each object that is held or awaited, with
-//! counts and masks, and a holder record for each session that holds something of it.
+//! A partition of the lock table as lock.c keeps it: a lock record for each object that is held or awaited,
+//! with counts and masks, and a holder record for each session that holds something of it.
 #![tactic(auto)]
 
 mod counts;

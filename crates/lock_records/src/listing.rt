@@ -32,8 +32,8 @@ fn push_modes(holder: &HolderRecord, rows: &mut Vec<TableRow>) -> Result<(), NoM
     Ok(())
 }
 
-/// Appends to `rows` a row for each hold in the holder records `holders`. After a refusal some rows may have been
-/// added.
+/// Appends to `rows` a row for each hold in the holder records `holders`. After a refusal some rows may have
+/// been added.
 pub(crate) fn push_holds(
     holders: &Slab<HolderRecord>,
     rows: &mut Vec<TableRow>,
@@ -52,7 +52,8 @@ pub(crate) fn push_holds(
     Ok(())
 }
 
-/// Appends to `rows` a row for each of `waiters`, the waits for `tag`. After a refusal some rows may have been added.
+/// Appends to `rows` a row for each of `waiters`, the waits for `tag`. After a refusal some rows may have
+/// been added.
 pub(crate) fn push_waits(
     tag: &Tag,
     waiters: &[Waiter],

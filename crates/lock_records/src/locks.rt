@@ -12,8 +12,8 @@ use modes_core::{Mode, Tag, conflicts};
 use place_index::PlaceIndex;
 use slab::Slab;
 
-/// What a partition keeps of an object that is held or awaited (`LOCK` in lock.h): the chain of its holder records,
-/// how many holds there are in each lock mode, and how many waits for each.
+/// What a partition keeps of an object that is held or awaited (`LOCK` in lock.h): the chain of its holder
+/// records, how many holds there are in each lock mode, and how many waits for each.
 #[derive(Drop)]
 pub struct LockRecord {
     pub tag: Tag,
@@ -82,8 +82,8 @@ fn key_of(tag: &Tag) -> u32
     tag.hash().wrapping_mul(2_654_435_761)
 }
 
-/// Whether `tag` is `other`. Neither is copied: a copy is stored field by field, and the comparison would wait for
-/// that.
+/// Whether `tag` is `other`. Neither is copied: a copy is stored field by field, and the comparison would
+/// wait for that.
 #[inline(always)]
 fn is_same_tag(tag: &Tag, other: &Tag) -> bool
     ensures { result ≡ tag_eq tag.now other.now }
@@ -102,8 +102,8 @@ fn is_lock_on(locks: &Slab<LockRecord>, place: usize, tag: &Tag) -> bool
     }
 }
 
-/// The place of the lock record of `tag` in `locks`, if there is one: `hint`, where a record was found last, is
-/// looked at before `index` is asked.
+/// The place of the lock record of `tag` in `locks`, if there is one: `hint`, where a record was found last,
+/// is looked at before `index` is asked.
 #[inline(always)]
 pub(crate) fn find_lock(
     locks: &Slab<LockRecord>,
@@ -121,9 +121,9 @@ pub(crate) fn find_lock(
     find_lock_by_index(locks, index, tag)
 }
 
-/// The place of the lock record of `tag` in `locks`, if there is one, for a call that mostly follows one on the same
-/// object: the look through `index`, where the record is not at `hint`, is a function of its own, so that this one
-/// remains short.
+/// The place of the lock record of `tag` in `locks`, if there is one, for a call that mostly follows one on
+/// the same object: the look through `index`, where the record is not at `hint`, is a function of its own, so
+/// that this one remains short.
 #[inline(always)]
 pub(crate) fn find_hinted_lock(
     locks: &Slab<LockRecord>,
@@ -141,8 +141,8 @@ pub(crate) fn find_hinted_lock(
     Some(hint)
 }
 
-/// The lock record of `tag` in `locks`, if there is one, for a call that mostly follows one on the same object:
-/// `hint` is looked at before `index` is asked.
+/// The lock record of `tag` in `locks`, if there is one, for a call that mostly follows one on the same
+/// object: `hint` is looked at before `index` is asked.
 #[inline(always)]
 pub(crate) fn hinted_lock<'a>(
     locks: &'a Slab<LockRecord>,
@@ -165,8 +165,8 @@ pub(crate) fn hinted_lock<'a>(
     }
 }
 
-/// The place of the lock record of `tag` in `locks`, looked for through `index`: a function of its own, called
-/// seldom.
+/// The place of the lock record of `tag` in `locks`, looked for through `index`: a function of its own,
+/// called seldom.
 #[cold]
 #[inline(never)]
 fn find_lock_cold(locks: &Slab<LockRecord>, index: &PlaceIndex, tag: &Tag) -> Option<usize>
@@ -193,8 +193,8 @@ fn find_lock_by_index(locks: &Slab<LockRecord>, index: &PlaceIndex, tag: &Tag) -
     }
 }
 
-/// The place of the lock record of `tag` in `locks`, which is made where there is none. `absent` says that the caller
-/// knows that there is none; otherwise `hint` is looked at before `index` is asked.
+/// The place of the lock record of `tag` in `locks`, which is made where there is none. `absent` says that
+/// the caller knows that there is none; otherwise `hint` is looked at before `index` is asked.
 #[inline(always)]
 pub(crate) fn find_or_make_lock(
     locks: &mut Slab<LockRecord>,
@@ -237,8 +237,8 @@ fn make_lock(locks: &mut Slab<LockRecord>, index: &mut PlaceIndex, tag: &Tag) ->
     place
 }
 
-/// Takes the lock record of `tag`, at `place`, out of `locks` and `index` where nobody holds or awaits the object any
-/// more.
+/// Takes the lock record of `tag`, at `place`, out of `locks` and `index` where nobody holds or awaits the
+/// object any more.
 #[inline(always)]
 pub(crate) fn drop_empty(
     locks: &mut Slab<LockRecord>,

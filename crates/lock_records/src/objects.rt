@@ -21,9 +21,9 @@ use modes_core::{Mode, SessionId, Tag, conflicts};
 use place_index::PlaceIndex;
 use slab::Slab;
 
-/// Makes room for a request: in `index` and `locks` for one more lock record, in `holders` for the holds that the
-/// request and each wait become, in `queues` for one more queue record with a wait in it, and in `woken` for one
-/// entry more than there are waits. No record changes.
+/// Makes room for a request: in `index` and `locks` for one more lock record, in `holders` for the holds that
+/// the request and each wait become, in `queues` for one more queue record with a wait in it, and in `woken`
+/// for one entry more than there are waits. No record changes.
 #[inline(always)]
 pub(crate) fn make_room(
     locks: &mut Slab<LockRecord>,
@@ -69,8 +69,8 @@ pub(crate) fn make_room(
     Ok(())
 }
 
-/// Makes room for one more wait in the wait queue of `tag`, whose lock record is at `found`, if somebody awaits the
-/// object. Mostly nobody waits in the whole partition, and nothing is done.
+/// Makes room for one more wait in the wait queue of `tag`, whose lock record is at `found`, if somebody
+/// awaits the object. Mostly nobody waits in the whole partition, and nothing is done.
 #[inline(always)]
 pub(crate) fn make_room_to_wait(
     locks: &Slab<LockRecord>,
@@ -89,8 +89,8 @@ pub(crate) fn make_room_to_wait(
     make_room_in_queue(locks, queues, found, tag)
 }
 
-/// Makes room for one more wait in the wait queue of `tag`, whose lock record is at `found`, if somebody awaits the
-/// object: the seldom part of `make_room_to_wait`.
+/// Makes room for one more wait in the wait queue of `tag`, whose lock record is at `found`, if somebody
+/// awaits the object: the seldom part of `make_room_to_wait`.
 #[cold]
 #[inline(never)]
 fn make_room_in_queue(
@@ -113,8 +113,8 @@ fn make_room_in_queue(
     }
 }
 
-/// Makes room in `woken`, which has too little, for `most` sessions with their modes. Those that `woken` has are
-/// forgotten.
+/// Makes room in `woken`, which has too little, for `most` sessions with their modes. Those that `woken` has
+/// are forgotten.
 #[cold]
 #[inline(never)]
 fn grow_woken(woken: &mut Vec<(SessionId, Mode)>, most: usize) -> Result<(), NoMemory>
@@ -126,8 +126,8 @@ fn grow_woken(woken: &mut Vec<(SessionId, Mode)>, most: usize) -> Result<(), NoM
     Ok(())
 }
 
-/// Adds the hold of `session` on `tag` in `mode`, which `session` hasn't yet, to `holders` and to the lock record at
-/// `place` of `locks`.
+/// Adds the hold of `session` on `tag` in `mode`, which `session` hasn't yet, to `holders` and to the lock
+/// record at `place` of `locks`.
 #[inline(always)]
 pub(crate) fn add_hold(
     locks: &mut Slab<LockRecord>,
@@ -158,7 +158,8 @@ pub(crate) fn add_hold(
     lock.granted.raise(mode);
 }
 
-/// Takes the hold of `session` on `tag` in `mode` out of `holders` and of the lock record at `place` of `locks`.
+/// Takes the hold of `session` on `tag` in `mode` out of `holders` and of the lock record at `place` of
+/// `locks`.
 #[inline(always)]
 pub(crate) fn remove_hold(
     locks: &mut Slab<LockRecord>,
@@ -188,9 +189,9 @@ pub(crate) fn remove_hold(
     lock.granted.lower(mode);
 }
 
-/// The lowest-numbered session other than `session` that holds `tag`, the object of `lock`, in a mode in conflict
-/// with `mode`, with its lowest such mode. Where nobody holds such a mode, the mask of `lock` shows that, and no
-/// holder record is read.
+/// The lowest-numbered session other than `session` that holds `tag`, the object of `lock`, in a mode in
+/// conflict with `mode`, with its lowest such mode. Where nobody holds such a mode, the mask of `lock` shows
+/// that, and no holder record is read.
 #[inline(always)]
 pub(crate) fn holder_in_the_way(
     lock: &LockRecord,
@@ -213,8 +214,8 @@ pub(crate) fn holder_in_the_way(
     }
 }
 
-/// The place in `queues` of the queue record of `tag`, looked for first where `lock` notes it. `None` where nobody
-/// awaits the object.
+/// The place in `queues` of the queue record of `tag`, looked for first where `lock` notes it. `None` where
+/// nobody awaits the object.
 #[inline(always)]
 pub(crate) fn queue_place(lock: &LockRecord, queues: &WaitQueues, tag: &Tag) -> Option<usize>
     requires { (mode : Mode) → counts_in lock.now.awaited mode ≡ awaited_of (queue_on queues.now.slots tag.now) mode }
@@ -227,8 +228,8 @@ pub(crate) fn queue_place(lock: &LockRecord, queues: &WaitQueues, tag: &Tag) -> 
     queues.find(lock.queue, tag)
 }
 
-/// Counts one more wait for `mode` in the lock record of `tag` at `place`, and notes that the object's queue record
-/// is at `queue`.
+/// Counts one more wait for `mode` in the lock record of `tag` at `place`, and notes that the object's queue
+/// record is at `queue`.
 pub(crate) fn raise_awaited(
     locks: &mut Slab<LockRecord>,
     place: usize,

@@ -6,9 +6,9 @@ use modes_core::{Mode, ModeSet, SessionId, Tag};
 use std::alloc::Global;
 use std::marker::Model;
 
-/// One partition of the lock table as lock.c keeps it, with lock and holder records. The records are on the heap, so
-/// that the part is one pointer wide: a caller that takes a partition gets its part by value, and puts it back by
-/// value. The boxes of two parts share no cache line.
+/// One partition of the lock table as lock.c keeps it, with lock and holder records. The records are on the
+/// heap, so that the part is one pointer wide: a caller that takes a partition gets its part by value, and
+/// puts it back by value. The boxes of two parts share no cache line.
 #[derive(Drop)]
 pub struct RecordPart {
     records: Box<CachePadded<Records>>,
@@ -39,8 +39,8 @@ impl RecordPart {
         Ok(RecordPart { records })
     }
 
-    /// The counts of `tag`, or `None` where nobody holds or awaits the object: no lock record is kept of it then, so
-    /// that counts are never all 0.
+    /// The counts of `tag`, or `None` where nobody holds or awaits the object: no lock record is kept of it
+    /// then, so that counts are never all 0.
     pub fn counts(&self, tag: &Tag) -> Option<Counts>
         ensures found { IfSome result (AreCountsOf (content_of self.now) tag.now) }
         ensures used { IfSome result (λ counts. 0 < counts.requested_total) }

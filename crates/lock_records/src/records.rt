@@ -18,8 +18,9 @@ use slab::Slab;
 use std::alloc::Global;
 use std::marker::Model;
 
-/// One partition of the lock table as lock.c keeps it: lock records, found through an index by the hash of the tag,
-/// holder records, queue records of the objects that somebody awaits, and the list of those whom the last wakeup granted.
+/// One partition of the lock table as lock.c keeps it: lock records, found through an index by the hash of
+/// the tag, holder records, queue records of the objects that somebody awaits, and the list of those whom the
+/// last wakeup granted.
 #[derive(Drop)]
 pub struct Records {
     locks: Slab<LockRecord>,
@@ -32,13 +33,13 @@ pub struct Records {
     prepared: Pending,
     /// The place where a lock record was found last: the next call mostly wants the same record.
     hint: usize,
-    /// Whether the object of the begun request is known to have no lock record. Nobody makes one before the request
-    /// is granted or joins the wait queue.
+    /// Whether the object of the begun request is known to have no lock record. Nobody makes one before the
+    /// request is granted or joins the wait queue.
     absent: bool,
     /// Whether the lock record of the begun request's object is known to be at `hint`.
     known: bool,
-    /// The sessions whose waits the last wakeup granted, each with the mode. There is room for all sessions that wait
-    /// in the partition.
+    /// The sessions whose waits the last wakeup granted, each with the mode. There is room for all sessions
+    /// that wait in the partition.
     woken: Vec<(SessionId, Mode)>,
 }
 
@@ -80,8 +81,8 @@ impl Records {
         })
     }
 
-    /// The counts of `tag`, or `None` where nobody holds or awaits the object: no lock record is kept of it then, so
-    /// that counts are never all 0.
+    /// The counts of `tag`, or `None` where nobody holds or awaits the object: no lock record is kept of it
+    /// then, so that counts are never all 0.
     pub fn counts(&self, tag: &Tag) -> Option<Counts>
         ensures found { IfSome result (AreCountsOf (content_of self.now) tag.now) }
         ensures used { IfSome result (λ counts. 0 < counts.requested_total) }

@@ -7,9 +7,9 @@ use crate::sets::has_some;
 use modes_core::{Mode, ModeSet};
 use std::marker::Model;
 
-/// How many holds or waits there are of each lock mode, with their total and the mask of the modes of which there is
-/// one: what lock.h keeps for a lock in `granted`, `nGranted` and `grantMask`, and in `requested`, `nRequested` and
-/// `waitMask`. Contracts see the list of numbers, by the mode's number; place 0 is unused.
+/// How many holds or waits there are of each lock mode, with their total and the mask of the modes of which
+/// there is one: what lock.h keeps for a lock in `granted`, `nGranted` and `grantMask`, and in `requested`,
+/// `nRequested` and `waitMask`. Contracts see the list of numbers, by the mode's number; place 0 is unused.
 #[derive(Drop)]
 pub struct Tally {
     by_mode: [u16; 9],
@@ -47,8 +47,8 @@ impl Tally {
         self.by_mode[usize::from(mode.number())]
     }
 
-    /// How many of each lock mode the tally has counted, at the number of the mode; 9 numbers, of which the first is
-    /// unused.
+    /// How many of each lock mode the tally has counted, at the number of the mode; 9 numbers, of which the
+    /// first is unused.
     pub fn by_mode(&self) -> [u16; 9]
         ensures value { result ≡ self.now }
         ensures nine { length result ≡ 9 }

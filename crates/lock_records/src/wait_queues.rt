@@ -19,16 +19,16 @@ use std::alloc::Global;
 use std::marker::Model;
 use std::mem::replace;
 
-/// The wait queue of an object (`waitProcs` of `LOCK` in lock.h), the first wait first. Each session waits for the
-/// object once at most.
+/// The wait queue of an object (`waitProcs` of `LOCK` in lock.h), the first wait first. Each session waits
+/// for the object once at most.
 #[derive(Drop)]
 pub struct QueueRecord {
     pub tag: Tag,
     pub waiters: Vec<Waiter>,
 }
 
-/// The queue records of a partition, and how many waits they have together. An object has a queue record only while
-/// somebody awaits the object. To add a wait takes no memory: room is made before.
+/// The queue records of a partition, and how many waits they have together. An object has a queue record only
+/// while somebody awaits the object. To add a wait takes no memory: room is made before.
 #[derive(Drop)]
 pub struct WaitQueues {
     slots: Slab<QueueRecord>,
@@ -109,8 +109,8 @@ impl WaitQueues {
         }
     }
 
-    /// The place of the queue record of `tag`, if it has one. `noted`, the place that the lock record of `tag` notes,
-    /// is looked at first, and other places only where the record isn't at `noted`.
+    /// The place of the queue record of `tag`, if it has one. `noted`, the place that the lock record of
+    /// `tag` notes, is looked at first, and other places only where the record isn't at `noted`.
     pub(crate) fn find(&self, noted: usize, tag: &Tag) -> Option<usize>
         ensures found { IfSome result (IsQueueAt self.now.slots tag.now) }
         ensures absent { IfNone result (queue_on self.now.slots tag.now ≡ []) }
@@ -134,8 +134,8 @@ impl WaitQueues {
         self.slots[at].waiters.as_slice()
     }
 
-    /// The mode that `session` awaits on `tag`, whose queue record is at `at`, or `None` where `session` doesn't wait
-    /// for `tag`.
+    /// The mode that `session` awaits on `tag`, whose queue record is at `at`, or `None` where `session`
+    /// doesn't wait for `tag`.
     pub(crate) fn awaited_mode(&self, at: usize, tag: &Tag, session: SessionId) -> Option<Mode>
         requires { IsQueueAt self.now.slots tag.now at }
         ensures { result ≡ option_map (λ wait. wait.mode) (wait_in (queue_on self.now.slots tag.now) session) }
@@ -143,8 +143,8 @@ impl WaitQueues {
         mode_of(self.waiters(at, tag), session)
     }
 
-    /// Puts `waiter` into the wait queue of `tag`, whose queue record is at `at`, before the wait at `place`, or at
-    /// the end where `place` is the length of the queue.
+    /// Puts `waiter` into the wait queue of `tag`, whose queue record is at `at`, before the wait at `place`,
+    /// or at the end where `place` is the length of the queue.
     pub(crate) fn insert(&mut self, at: usize, tag: &Tag, place: usize, waiter: Waiter)
         requires there { IsQueueAt self.old.slots tag.now at }
         requires room { HasRoomInQueue self.old.slots tag.now }
@@ -162,8 +162,8 @@ impl WaitQueues {
         self.waiting += 1;
     }
 
-    /// Makes the queue record of `tag`, which nobody awaits yet, with `waiter` in its wait queue, and answers the
-    /// record's place.
+    /// Makes the queue record of `tag`, which nobody awaits yet, with `waiter` in its wait queue, and answers
+    /// the record's place.
     #[inline(never)]
     pub(crate) fn start(&mut self, tag: &Tag, waiter: Waiter) -> usize
         requires none { queue_on self.old.slots tag.now ≡ [] }
@@ -182,8 +182,9 @@ impl WaitQueues {
             .insert_reserved(QueueRecord { tag: *tag, waiters })
     }
 
-    /// Takes the wait of `session` out of the wait queue of `tag`, whose queue record is at `at`. With its last wait
-    /// the record is taken out, and the larger one of its queue and the spare one is kept as the spare one.
+    /// Takes the wait of `session` out of the wait queue of `tag`, whose queue record is at `at`. With its
+    /// last wait the record is taken out, and the larger one of its queue and the spare one is kept as the
+    /// spare one.
     pub(crate) fn leave(&mut self, at: usize, tag: &Tag, session: SessionId)
         requires there { IsQueueAt self.old.slots tag.now at }
         requires waits { waits_there (queue_on self.old.slots tag.now) session ≡ true }
@@ -232,7 +233,8 @@ fn grow_spare(spare: &mut Vec<Waiter>) -> Result<(), NoMemory>
     Ok(())
 }
 
-/// Keeps in `spare` the one of `spare` and `gone` that has room for more waits, and drops the other. Both are empty.
+/// Keeps in `spare` the one of `spare` and `gone` that has room for more waits, and drops the other. Both are
+/// empty.
 fn keep_larger(spare: &mut Vec<Waiter>, gone: Vec<Waiter>)
     requires spare { spare.old.items ≡ [] }
     requires gone { gone.items ≡ [] }
@@ -245,8 +247,9 @@ fn keep_larger(spare: &mut Vec<Waiter>, gone: Vec<Waiter>)
     }
 }
 
-/// Puts `waiter` into the wait queue of `tag` before the wait at `place`, or at the end where `place` is the length
-/// of the queue, and answers the place of the queue record: `at`, or a new one where nobody awaits `tag` yet.
+/// Puts `waiter` into the wait queue of `tag` before the wait at `place`, or at the end where `place` is the
+/// length of the queue, and answers the place of the queue record: `at`, or a new one where nobody awaits
+/// `tag` yet.
 pub(crate) fn queue_up(
     queues: &mut WaitQueues,
     at: Option<usize>,
@@ -274,7 +277,8 @@ pub(crate) fn queue_up(
     }
 }
 
-/// The mode for which `session` waits in the wait queue `waiters`, or `None` where `session` doesn't wait in it.
+/// The mode for which `session` waits in the wait queue `waiters`, or `None` where `session` doesn't wait in
+/// it.
 fn mode_of(waiters: &[Waiter], session: SessionId) -> Option<Mode>
     ensures { result ≡ option_map (λ waiter. waiter.mode) (find (λ waiter. waiter.session == session) waiters.now) }
 {

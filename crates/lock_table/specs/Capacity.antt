@@ -1,7 +1,8 @@
 use Rattle.std.specs.Prelude.{ℕ, ◌≤◌}
 
--- For how many entries of each kind a keeper of a partition has memory, whether they are in use or not: lock records, holder records (or
--- holds), queue records, waits, names of those whom a wakeup grants, and places of an index. A keeper with no entries of a kind has 0 there.
+-- For how many entries of each kind a keeper of a partition has memory, whether they are in use or not: lock
+-- records, holder records (or holds), queue records, waits, names of those whom a wakeup grants, and places
+-- of an index. A keeper with no entries of a kind has 0 there.
 pub record Capacity : Type 0 where
   pub locks : ℕ
   pub holders : ℕ

@@ -12,8 +12,8 @@ abbrev pub NoConflictingHolder : Holds → ℕ → Tag → Mode → Type 0
 NoConflictingHolder holds session tag mode =
     (other : ℕ) (its : Mode) → other ≢ session → holds other tag its ≡ true → conflict mode its ≡ false
 
--- `other` is the lowest-numbered session, other than this one, that holds the object in a mode that conflicts with the
--- mode, and `its` is its lowest such mode.
+-- `other` is the lowest-numbered session, other than this one, that holds the object in a mode that conflicts
+-- with the mode, and `its` is its lowest such mode.
 pub record IsConflictingHolder (holds : Holds) (session : ℕ) (tag : Tag) (mode : Mode) (other : ℕ) (its : Mode) : Type 0 where
   pub another : other ≢ session
   pub holding : holds other tag its ≡ true
@@ -36,15 +36,16 @@ lower_holder_of (Some lowest) session mode =
 abbrev pub first_waiter : List Wait → Mode → Option Wait
 first_waiter waits mode = find (λ w. conflict mode w.mode) waits
 
--- What a request clashes with, once the first waiter that awaits a conflicting mode is known, if there is one.
+-- What a request clashes with, once the first waiter that awaits a conflicting mode is known, if there is
+-- one.
 abbrev pub ClashAfterWaiters : Option Wait → Content → ℕ → Tag → Mode → Option Clash → Type 0
 ClashAfterWaiters (Some w) content session tag mode found = found ≡ Some (record { session = w.session; mode = w.mode; how = Awaited })
 ClashAfterWaiters None content session tag mode None = NoConflictingHolder content.holds session tag mode
 ClashAfterWaiters None content session tag mode (Some found) =
     IsConflictingHolder content.holds session tag mode found.session found.mode × (found.how ≡ Held)
 
--- What a request for the mode on the object clashes with in the content, if anything: the first waiter that awaits a
--- conflicting mode, else the conflicting holder.
+-- What a request for the mode on the object clashes with in the content, if anything: the first waiter that
+-- awaits a conflicting mode, else the conflicting holder.
 abbrev pub ClashIs : Content → ℕ → Tag → Mode → Option Clash → Type 0
 ClashIs content session tag mode found = ClashAfterWaiters (first_waiter (content.waits tag) mode) content session tag mode found
 

@@ -9,15 +9,15 @@ use Rattle.lock_table.specs.Put.{put}
 abbrev pub Holds : Type 0
 Holds = ℕ → Tag → Mode → Bool
 
--- A request that waits in an object's queue: who waits, for which mode, and the modes of the object that the session
--- held when it joined.
+-- A request that waits in an object's queue: who waits, for which mode, and the modes of the object that the
+-- session held when it joined.
 pub record Wait : Type 0 where
   pub session : ℕ
   pub mode : Mode
   pub held : Mode → Bool
 
--- What a partition of the lock table has in it: its holds, and a queue of waits for each object, the first one first.
--- Two keepers of the same holds and queues have equal contents.
+-- What a partition of the lock table has in it: its holds, and a queue of waits for each object, the first
+-- one first. Two keepers of the same holds and queues have equal contents.
 pub record Content : Type 0 where
   pub holds : Holds
   pub waits : Tag → List Wait

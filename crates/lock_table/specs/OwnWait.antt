@@ -5,15 +5,15 @@ use Rattle.modes_core.specs.Mode.{mode_eq}
 use Rattle.modes_core.specs.Tag.{tag_eq}
 use Rattle.lock_table.specs.Content.{Wait}
 
--- A session's wait by its own account: on which object, for which mode, and the modes of the object that it held when it
--- joined.
+-- A session's wait by its own account: on which object, for which mode, and the modes of the object that it
+-- held when it joined.
 pub record OwnWait : Type 0 where
   pub tag : Tag
   pub mode : Mode
   pub held : Mode → Bool
 
--- How far a wait has come: it is in its object's queue; it was granted, and its session hasn't taken the grant over; or its
--- session has taken it out of the queue, and has not closed it yet.
+-- How far a wait has come: it is in its object's queue; it was granted, and its session hasn't taken the
+-- grant over; or its session has taken it out of the queue, and has not closed it yet.
 pub data Stage : Type 0 where
   InQueue : Stage
   WasGranted : Stage
@@ -28,8 +28,8 @@ abbrev pub is_for : Option OwnWait → Tag → Mode → Bool
 is_for None tag mode = false
 is_for (Some wait) tag mode = tag_eq wait.tag tag && mode_eq wait.mode mode
 
--- Pending grants: whether the wait was granted, for the mode on the object. Its session has that hold in the content, and
--- not yet by its own account.
+-- Pending grants: whether the wait was granted, for the mode on the object. Its session has that hold in the
+-- content, and not yet by its own account.
 abbrev pub is_pending : Option OwnWait → Stage → Tag → Mode → Bool
 is_pending awaited InQueue tag mode = false
 is_pending awaited WasGranted tag mode = is_for awaited tag mode

@@ -15,8 +15,9 @@ view_of part = record {
   capacity = capacity_of_lists (vec_capacity part.holds) (vec_capacity part.waits) (vec_capacity part.woken);
 }
 
--- Each request is held or awaited once at most, a session waits once at most on an object, and a begun request is new. There is room for the
--- hold that each wait becomes, for each waiter in the list of those woken, and for the begun request in each list.
+-- Each request is held or awaited once at most, a session waits once at most on an object, and a begun
+-- request is new. There is room for the hold that each wait becomes, for each waiter in the list of those
+-- woken, and for the begun request in each list.
 pub record ArePartLists (part : Inside) : Type 0 where
   pub each_once : EachOnce part.holds.items part.waits.items
   pub one_wait_each : OneWaitEach part.waits.items

@@ -9,8 +9,8 @@ use Rattle.lock_table.specs.Content.{Holds, Content}
 use Rattle.lock_table.specs.Capacity.{Capacity}
 use Rattle.lock_table.specs.PartWaits.{queues_in}
 
--- what contracts see of a `PlainPart`: its list of holds, its list of waits, whom its last wakeup granted, the request that is begun, the
--- one that room was made for last, and for how many entries there is room
+-- what contracts see of a `PlainPart`: its list of holds, its list of waits, whom its last wakeup granted,
+-- the request that is begun, the one that room was made for last, and for how many entries there is room
 pub record PartView : Type 0 where
   pub holds : List Request
   pub waits : List PartWait

@@ -21,21 +21,23 @@ conflicts_with_some mode set = list_any (λ other. set other && conflict mode ot
 abbrev pub some_awaits_conflict : List Wait → Mode → Bool
 some_awaits_conflict waits mode = list_any (λ wait. conflict mode wait.mode) waits
 
--- The mode is free to go: it conflicts with no hold of another session on the object, and with no mode that is awaited ahead.
+-- The mode is free to go: it conflicts with no hold of another session on the object, and with no mode that
+-- is awaited ahead.
 pub record IsFree (holds : Holds) (session : ℕ) (tag : Tag) (mode : Mode) (ahead : List Wait) : Type 0 where
   pub beside_holders : NoConflictingHolder holds session tag mode
   pub behind_waiters : some_awaits_conflict ahead mode ≡ false
 
 -- What a request that may wait is answered.
 
--- The waiter is the first one of the queue whose mode conflicts with a mode of the set; these are ahead of it, and these behind.
+-- The waiter is the first one of the queue whose mode conflicts with a mode of the set; these are ahead of
+-- it, and these behind.
 pub record IsFirstAgainst (set : Mode → Bool) (queue ahead : List Wait) (waiter : Wait) (behind : List Wait) : Type 0 where
   pub parts : queue ≡ ahead ++ waiter ∷ behind
   pub passed : list_any (λ wait. conflicts_with_some wait.mode set) ahead ≡ false
   pub met : conflicts_with_some waiter.mode set ≡ true
 
--- The answer to a request that meets this waiter, with these ahead of it: the waiter's own holds may be in its way, or nothing
--- may be, or else it goes before the waiter (the early insertion of ProcSleep in proc.c).
+-- The answer to a request that meets this waiter, with these ahead of it: the waiter's own holds may be in
+-- its way, or nothing may be, or else it goes before the waiter (the early insertion of ProcSleep in proc.c).
 abbrev pub AnswerAtWaiter : Holds → ℕ → Tag → Mode → List Wait → Wait → Answer → Type 0
 AnswerAtWaiter holds session tag mode ahead waiter (SimpleDeadlock other) =
     (conflicts_with_some mode waiter.held ≡ true) × (other ≡ waiter.session)
@@ -44,8 +46,8 @@ AnswerAtWaiter holds session tag mode ahead waiter Granted =
 AnswerAtWaiter holds session tag mode ahead waiter (Queued place) =
     (conflicts_with_some mode waiter.held ≡ false) × (IsFree holds session tag mode ahead → ⊥) × (place ≡ length ahead)
 
--- The answer to a request that something is in the way of: behind all where no waiter's mode conflicts with one that its
--- session holds of the object, and else by the first such waiter.
+-- The answer to a request that something is in the way of: behind all where no waiter's mode conflicts with
+-- one that its session holds of the object, and else by the first such waiter.
 abbrev pub AnswerByPlace : Content → ℕ → Tag → Mode → Answer → Type 0
 AnswerByPlace content session tag mode answer =
     ((list_any (λ wait. conflicts_with_some wait.mode (content.holds session tag)) (content.waits tag) ≡ false)
@@ -59,8 +61,9 @@ abbrev pub WaitingAnswerAt : Option Clash → Content → ℕ → Tag → Mode �
 WaitingAnswerAt None content session tag mode answer = answer ≡ Granted
 WaitingAnswerAt (Some clash) content session tag mode answer = AnswerByPlace content session tag mode answer
 
--- A request that may wait is granted where it clashes with nothing, and else answered by its place. (One that may not wait
--- is granted where it clashes with nothing, and else refused with what it clashes with: `ClashIs` is its answer.)
+-- A request that may wait is granted where it clashes with nothing, and else answered by its place. (One that
+-- may not wait is granted where it clashes with nothing, and else refused with what it clashes with:
+-- `ClashIs` is its answer.)
 abbrev pub WaitingAnswer : Content → ℕ → Tag → Mode → Answer → Type 0
 WaitingAnswer content session tag mode answer =
     (clash : Option Clash) × ClashIs content session tag mode clash × WaitingAnswerAt clash content session tag mode answer
@@ -106,8 +109,9 @@ remove_wait content session tag = with_queue content tag (queue_without (content
 
 -- The wakeup of an object's queue (ProcLockWakeup in proc.c).
 
--- The one way to split a queue into granted and left, from the front, with these left so far: a wait is granted exactly
--- where it is free to go beside the holders, those granted before it among them, and behind those left before it.
+-- The one way to split a queue into granted and left, from the front, with these left so far: a wait is
+-- granted exactly where it is free to go beside the holders, those granted before it among them, and behind
+-- those left before it.
 abbrev pub SplitsBehind : List Wait → Holds → Tag → List Wait → List Wait → List Wait → Type 0
 SplitsBehind ahead holds tag [] granted left = (granted ≡ []) × (left ≡ [])
 SplitsBehind ahead holds tag (wait ∷ queue) granted left =

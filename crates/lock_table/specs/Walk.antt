@@ -11,13 +11,14 @@ use Rattle.lock_table.specs.declared.answering.walk.Walk.{Walk}
 abbrev pub NoneAgainst : (Mode → Bool) → List Wait → Type 0
 NoneAgainst set waits = list_any (λ wait. conflicts_with_some wait.mode set) waits ≡ false
 
--- The set stands for these waits: a mode conflicts with one of the set exactly where some of them awaits a mode in conflict
--- with it.
+-- The set stands for these waits: a mode conflicts with one of the set exactly where some of them awaits a
+-- mode in conflict with it.
 abbrev pub StandFor : (Mode → Bool) → List Wait → Type 0
 StandFor set waits = (mode : Mode) → conflicts_with_some mode set ≡ some_awaits_conflict waits mode
 
--- A walk along the queue, up to the first waiter whose mode conflicts with one of the set: it passed those before its place,
--- and stands for them by the modes that they await; the waiter at its place, if one is there, ended it.
+-- A walk along the queue, up to the first waiter whose mode conflicts with one of the set: it passed those
+-- before its place, and stands for them by the modes that they await; the waiter at its place, if one is
+-- there, ended it.
 pub record WalksUntil (set : Mode → Bool) (queue : List Wait) (walk : Walk) : Type 0 where
   pub within : walk.place ≤ length queue
   pub passed : NoneAgainst set (take walk.place queue)

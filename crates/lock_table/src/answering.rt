@@ -26,9 +26,9 @@ pub struct Clash {
     pub how: How,
 }
 
-/// What a request of `session` for `tag` in `mode` clashes with in `part`, if anything: the first waiter that awaits
-/// a conflicting mode, else the lowest-numbered session that holds one (`LockCheckConflicts` in lock.c, after the
-/// look at `waitMask`).
+/// What a request of `session` for `tag` in `mode` clashes with in `part`, if anything: the first waiter that
+/// awaits a conflicting mode, else the lowest-numbered session that holds one (`LockCheckConflicts` in
+/// lock.c, after the look at `waitMask`).
 #[inline(always)]
 pub fn clash_with<P: PartTable>(
     part: &P,
@@ -53,7 +53,8 @@ pub fn clash_with<P: PartTable>(
     })
 }
 
-/// What the request of `session` for `tag` in `mode` that is begun in `part` clashes with, if anything: the answer of `clash_with`.
+/// What the request of `session` for `tag` in `mode` that is begun in `part` clashes with, if anything: the
+/// answer of `clash_with`.
 #[inline(always)]
 pub fn clash_with_begun<P: PartTable>(
     part: &P,
@@ -79,8 +80,9 @@ pub fn clash_with_begun<P: PartTable>(
     })
 }
 
-/// The first waiter in the queue of `tag` that awaits a mode in conflict with `mode`. Mostly nobody waits, which is asked
-/// first; and the queue is walked only where `PartTable::may_conflict` says that there may be a conflict.
+/// The first waiter in the queue of `tag` that awaits a mode in conflict with `mode`. Mostly nobody waits,
+/// which is asked first; and the queue is walked only where `PartTable::may_conflict` says that there may be
+/// a conflict.
 #[inline(always)]
 fn waiter_against<P: PartTable>(part: &P, tag: &Tag, mode: Mode) -> Option<Waiter>
     ensures { option_map shown_wait result ≡ first_waiter ((P.content part.now).waits tag.now) mode }
@@ -99,15 +101,16 @@ fn waiter_against<P: PartTable>(part: &P, tag: &Tag, mode: Mode) -> Option<Waite
 pub enum Answer {
     /// The session that makes the request is to have its hold.
     Granted,
-    /// The session that makes the request is to wait before the waiter at the given place of the queue, counted from the front,
-    /// and after all waiters where the place is their number.
+    /// The session that makes the request is to wait before the waiter at the given place of the queue,
+    /// counted from the front, and after all waiters where the place is their number.
     Queued(usize),
     /// The request is refused: the session that makes it and the given session would wait for one another.
     SimpleDeadlock(SessionId),
 }
 
-/// The answer to a request of `session` for `tag` in `mode` that may wait: granted where it clashes with nothing in
-/// `part`, otherwise by its place in the queue (`LockAcquireExtended` in lock.c, with `ProcSleep` in proc.c).
+/// The answer to a request of `session` for `tag` in `mode` that may wait: granted where it clashes with
+/// nothing in `part`, otherwise by its place in the queue (`LockAcquireExtended` in lock.c, with `ProcSleep`
+/// in proc.c).
 pub fn waiting_answer<P: PartTable>(part: &P, session: SessionId, tag: &Tag, mode: Mode) -> Answer
     ensures { WaitingAnswer (P.content part.now) session tag.now mode result }
 {

@@ -7,16 +7,18 @@ pub enum Move {
     Keep,
     /// The session adds a hold of its own (`GrantLock` in lock.c).
     Grant { tag: Tag, mode: Mode },
-    /// The session joins the wait queue of `tag` at the place that its request is answered, with the modes of the object that
-    /// it holds (`JoinWaitQueue`, in version 16 a part of `ProcSleep` in proc.c).
+    /// The session joins the wait queue of `tag` at the place that its request is answered, with the modes of
+    /// the object that it holds (`JoinWaitQueue`, in version 16 a part of `ProcSleep` in proc.c).
     Join { tag: Tag, mode: Mode },
-    /// The session takes a hold of its own away, and grants the waits that are then free to go (`UnGrantLock` and `CleanUpLock` in lock.c).
+    /// The session takes a hold of its own away, and grants the waits that are then free to go (`UnGrantLock`
+    /// and `CleanUpLock` in lock.c).
     Release { tag: Tag, mode: Mode },
-    /// The session takes its wait out of the wait queue of `tag`, and grants the waits that are then free to go (`RemoveFromWaitQueue` in lock.c).
+    /// The session takes its wait out of the wait queue of `tag`, and grants the waits that are then free to
+    /// go (`RemoveFromWaitQueue` in lock.c).
     Leave { tag: Tag },
-    /// The session adds holds of the session numbered `owner`, which may be itself, that stood in the fast-path slot `slot` of
-    /// that session. No single step makes this move: each step that moves a mode out of the slot adds one hold
-    /// (`FastPathTransferRelationLocks` in lock.c).
+    /// The session adds holds of the session numbered `owner`, which may be itself, that stood in the
+    /// fast-path slot `slot` of that session. No single step makes this move: each step that moves a mode out
+    /// of the slot adds one hold (`FastPathTransferRelationLocks` in lock.c).
     Adopt { owner: u16, slot: u8 },
 }
 

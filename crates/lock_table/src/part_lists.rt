@@ -1,5 +1,5 @@
-//! What a `PlainPart` has on the heap. A function that looks through a list copies the tag first, so that it is not
-//! read again at each place.
+//! What a `PlainPart` has on the heap. A function that looks through a list copies the tag first, so that it
+//! is not read again at each place.
 
 ghost use Rattle.std.specs.Prelude.{◌≡◌, ◌<◌, true, length, IfOk, vec_len, vec_capacity};
 ghost use Rattle.std.specs.List.{list_any, HoldsAt};
@@ -18,8 +18,8 @@ use modes_core::{MOST_SESSIONS, Mode, ModeSet, SessionId, Tag, conflicts};
 use std::alloc::{AllocError, Global};
 use std::marker::Model;
 
-/// Three lists of one partition: its holds, in no order, the waits on all its objects, and the waits that the last wakeup
-/// granted. Most calls look through a whole list.
+/// Three lists of one partition: its holds, in no order, the waits on all its objects, and the waits that the
+/// last wakeup granted. Most calls look through a whole list.
 #[derive(Drop)]
 pub struct PartLists {
     holds: Vec<Request>,
@@ -245,8 +245,8 @@ fn copy_of<T: Copy>(list: &Vec<T>) -> Result<Vec<T>, AllocError>
     Ok(copy)
 }
 
-/// The index in `holds` of the hold of `session` on `tag` in `mode`. The latest holds are at the end, so the search begins at
-/// the end.
+/// The index in `holds` of the hold of `session` on `tag` in `mode`. The latest holds are at the end, so the
+/// search begins at the end.
 fn index_of_hold(holds: &[Request], session: SessionId, tag: &Tag, mode: Mode) -> usize
     requires { list_any (λ hold. is_request_of hold session tag.now mode) holds.now ≡ true }
     ensures within { result < length holds.now }
@@ -263,7 +263,8 @@ fn index_of_hold(holds: &[Request], session: SessionId, tag: &Tag, mode: Mode) -
     unreachable!()
 }
 
-/// The lower of the holder `lowest`, if there is one, and the holder `session` with `mode`: lower by the session's number, and then by the mode's.
+/// The lower of the holder `lowest`, if there is one, and the holder `session` with `mode`: lower by the
+/// session's number, and then by the mode's.
 fn lower_holder(
     lowest: Option<(SessionId, Mode)>,
     session: SessionId,

@@ -1,5 +1,5 @@
-//! The waits of a partition, in one list. The queue of an object is the sub-list of its own. A function that compares
-//! the tag at each place of a list copies it first, so that it is not read again there.
+//! The waits of a partition, in one list. The queue of an object is the sub-list of its own. A function that
+//! compares the tag at each place of a list copies it first, so that it is not read again there.
 
 ghost use Rattle.std.specs.Prelude.{◌≡◌, ◌≤◌, ◌<◌, ◌+◌, ℕ, List, not, length, take, map, filter, find, option_map, slice_get, vec_len, vec_capacity};
 ghost use Rattle.std.specs.List.{list_any};
@@ -80,7 +80,8 @@ impl PartWait {
     }
 }
 
-/// The wait at `place` of the queue of `tag`, counted from the front, in the list `waits` of a partition's waits.
+/// The wait at `place` of the queue of `tag`, counted from the front, in the list `waits` of a partition's
+/// waits.
 pub fn waiter_at(waits: &[PartWait], tag: &Tag, place: usize) -> Option<Waiter>
     ensures { option_map shown_wait result ≡ slice_get (queues_in waits.now tag.now) place }
 {
@@ -169,9 +170,9 @@ fn goes(holds: &[Request], ahead: &[PartWait], wait: PartWait, tag: &Tag) -> boo
     !is_awaited(ahead, tag, conflicting)
 }
 
-/// Makes holds of the waits on `tag` that are free to go, from the front, each beside those granted before it and behind those
-/// left before it, and writes into `woken` whose waits these were. `holds` and `waits` together keep their length, and no list
-/// grows.
+/// Makes holds of the waits on `tag` that are free to go, from the front, each beside those granted before it
+/// and behind those left before it, and writes into `woken` whose waits these were. `holds` and `waits`
+/// together keep their length, and no list grows.
 pub fn wake_queue(
     holds: &mut Vec<Request>,
     waits: &mut Vec<PartWait>,

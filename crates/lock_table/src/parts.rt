@@ -8,8 +8,8 @@ use crate::part_table::PartTable;
 use modes_core::PARTITIONS;
 use std::alloc::Global;
 
-/// The partitions of a lock table in which nothing is held or awaited (`InitLocks` in lock.c): sixteen parts, the partition
-/// with number 0 first, each made by `new` with `alloc`. `NoMemory` where memory ran out.
+/// The partitions of a lock table in which nothing is held or awaited (`InitLocks` in lock.c): sixteen parts,
+/// the partition with number 0 first, each made by `new` with `alloc`. `NoMemory` where memory ran out.
 pub fn empty_parts<T: PartTable + Drop, F: Fn(Global) -> Result<T, NoMemory>>(
     alloc: Global,
     new: F,

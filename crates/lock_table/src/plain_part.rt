@@ -10,10 +10,10 @@ use modes_core::{Mode, ModeSet, SessionId, Tag};
 use std::alloc::{AllocError, Global};
 use std::marker::Model;
 
-/// The plain keeper of a partition: a list of its holds, a list of the waits on all its objects, and a list of the waits that
-/// its last wakeup granted. Most calls look through a whole list. The lists are on the heap, so that the part is one pointer
-/// wide: a session that takes a partition gets the part by value, and puts it back by value. The boxes of two parts share no
-/// cache line.
+/// The plain keeper of a partition: a list of its holds, a list of the waits on all its objects, and a list
+/// of the waits that its last wakeup granted. Most calls look through a whole list. The lists are on the
+/// heap, so that the part is one pointer wide: a session that takes a partition gets the part by value, and
+/// puts it back by value. The boxes of two parts share no cache line.
 #[derive(Drop)]
 pub struct PlainPart {
     lists: Box<CachePadded<PartLists>>,

@@ -67,7 +67,8 @@ pub fn waking_again_changes_nothing()
         Wakes before tag granted after → Wakes after tag more again → (more ≡ []) × (again ≡ after) }
 {}
 
-/// Where nobody in the queue is free to go, nobody is free to go after a request has joined the queue at the place that it is answered.
+/// Where nobody in the queue is free to go, nobody is free to go after a request has joined the queue at the
+/// place that it is answered.
 pub fn joining_leaves_none_free()
     ensures { (content : Content) (session : ℕ) (tag : Tag) (mode : Mode) (place : ℕ) →
         WaitingAnswer content session tag mode (Queued place) → NoneFree content tag →
@@ -76,7 +77,8 @@ pub fn joining_leaves_none_free()
         (content.waits tag)) }
 {}
 
-/// A release wakes no wait of the session that makes it: what was in the way of that wait is still in the way.
+/// A release wakes no wait of the session that makes it: what was in the way of that wait is still in the
+/// way.
 pub fn a_release_wakes_none_of_its_own()
     ensures { (before after : Content) (session : ℕ) (tag : Tag) (mode : Mode) (granted : List Wait) →
         NoneFree before tag → Wakes (remove_hold before session tag mode) tag granted after →

@@ -17,7 +17,8 @@ pub struct TableRow {
 }
 
 impl TableRow {
-    /// What a listing orders rows of the lock table by: by tag, then by session, granted before awaited, then by mode.
+    /// What a listing orders rows of the lock table by: by tag, then by session, granted before awaited, then
+    /// by mode.
     pub fn order(&self) -> (Tag, SessionId, bool, u8)
         ensures { result ≡ row_key self.now }
     {
@@ -25,8 +26,8 @@ impl TableRow {
     }
 }
 
-/// One row of a listing, before the rows of the lock table: a session holds a relation in a fast-path slot (`pg_locks` with
-/// `fastpath`).
+/// One row of a listing, before the rows of the lock table: a session holds a relation in a fast-path slot
+/// (`pg_locks` with `fastpath`).
 #[derive(Clone, Copy, Debug, PartialEq, Eq)]
 pub struct SlotRow {
     /// The session whose fast-path slot the row shows.

@@ -2,8 +2,8 @@ ghost use Rattle.modes_core.specs.ModeSet.{set_has};
 
 use modes_core::{Mode, ModeSet, SessionId};
 
-/// A wait in the queue of an object (`PGPROC` with its `waitLockMode` and `heldLocks` in proc.h): who waits, for which mode,
-/// and the modes of the object that the session held when it joined the queue.
+/// A wait in the queue of an object (`PGPROC` with its `waitLockMode` and `heldLocks` in proc.h): who waits,
+/// for which mode, and the modes of the object that the session held when it joined the queue.
 #[derive(Clone, Copy, Debug, PartialEq, Eq)]
 pub struct Waiter {
     /// The session that waits in the queue of an object.

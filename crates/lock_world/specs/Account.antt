@@ -127,8 +127,8 @@ account w session = record {
   trace = w.sessions.trace session;
 }
 
--- What stays of a session number where another session makes a step: its account, with all locks that it has, and whether it
--- is live and kept apart.
+-- What stays of a session number where another session makes a step: its account, with all locks that it has,
+-- and whether it is live and kept apart.
 pub record IsLeftAlone (w v : World) (session : ℕ) : Type 0 where
   pub account : account v session ≡ account w session
   pub live : v.numbers.live session ≡ w.numbers.live session

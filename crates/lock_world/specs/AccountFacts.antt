@@ -9,9 +9,9 @@ use Rattle.lock_world.specs.Counted.{is_past}
 use Rattle.lock_world.specs.SlotHolds.{slot_holds, ShowsNoMore, OneSlotEach, InUseHasDatabase, AreInGroups}
 use Rattle.lock_world.specs.Account.{Account, SlotsInHand}
 
--- Where the holds stand of the session of this number, which has this database and remembers its slots so, as a partition has this
--- content: there are words of its slots, which show no more than it remembers, by which each own hold of the partition is in a slot
--- or in the content, and not in both.
+-- Where the holds stand of the session of this number, which has this database and remembers its slots so, as
+-- a partition has this content: there are words of its slots, which show no more than it remembers, by which
+-- each own hold of the partition is in a slot or in the content, and not in both.
 pub record OwnHoldsStand (number : ℕ) (own : Tag → Mode → Bool) (database : ℕ) (remembered : ℕ → ℕ)
     (p : ℕ) (content : Content) : Type 0 where
   pub slot : ℕ → ℕ
@@ -43,8 +43,8 @@ pub record KnowsContent (number : ℕ) (a : Account) (p : ℕ) (content : Conten
   pub tabled_holds :
       (tag : Tag) (mode : Mode) → slot_holds a.fast.database a.fast.remembered tag mode ≡ false → partition_of tag ≡ p
       → a.own tag mode ≡ true → content.holds number tag mode ≡ true
-  -- and there where something that it has counted for the object is past its own number, so that no slot of its own has
-  -- the object
+  -- and there where something that it has counted for the object is past its own number, so that no slot of
+  -- its own has the object
   pub past :
       (tag : Tag) (mode : Mode) → is_past a.fast.counted tag number ≡ true → partition_of tag ≡ p
       → a.own tag mode ≡ true → content.holds number tag mode ≡ true
@@ -62,17 +62,19 @@ pub record KnowsContent (number : ℕ) (a : Account) (p : ℕ) (content : Conten
       (wait : OwnWait) → a.awaited ≡ Some wait → partition_of wait.tag ≡ p → waits_there (content.waits wait.tag) number ≡ false
       → content.holds number wait.tag wait.mode ≡ true
 
--- What the session of this number knows of the slots of a session, by its own account, where each has this many groups of slots:
--- it learns this of the slots whose lock it takes.
+-- What the session of this number knows of the slots of a session, by its own account, where each has this
+-- many groups of slots: it learns this of the slots whose lock it takes.
 pub record KnowsSlots (groups number : ℕ) (a : Account) (owner : ℕ) (slots : SlotsInHand) : Type 0 where
-  -- they show holds of the owner's database, one slot at most is for each relation, and who has one in use has a database
+  -- they show holds of the owner's database, one slot at most is for each relation, and who has one in use
+  -- has a database
   pub database : ℕ
   pub holds : slots.holds ≡ slot_holds database slots.word
   pub one_each : OneSlotEach slots.word
   pub in_use : InUseHasDatabase database slots.word
   -- each in use is of its relation's group
   pub in_groups : AreInGroups groups slots.word
-  -- of its own slots it knows the database, they show own holds alone, and no mode that it does not remember there
+  -- of its own slots it knows the database, they show own holds alone, and no mode that it does not remember
+  -- there
   pub own_database : owner ≡ number → database ≡ a.fast.database
   pub own : owner ≡ number → (tag : Tag) (mode : Mode) → slots.holds tag mode ≡ true → a.own tag mode ≡ true
   pub as_remembered : owner ≡ number → ShowsNoMore slots.word a.fast.remembered

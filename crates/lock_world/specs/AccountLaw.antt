@@ -17,8 +17,9 @@ use Rattle.lock_world.specs.Happens.Transfers.{MayAdopt}
 use Rattle.lw_word.specs.WaitList.{stands_in}
 use Rattle.lock_world.specs.Account.{Account, InHand, SlotsInHand, ListInHand}
 
--- Where a step is lawful, by the account of the session that makes it. That it makes steps of its own is not asked here. `number` is
--- the session's, `limit` how many sessions there can be, and `groups` how many groups of slots each has.
+-- Where a step is lawful, by the account of the session that makes it. That it makes steps of its own is not
+-- asked here. `number` is the session's, `limit` how many sessions there can be, and `groups` how many groups
+-- of slots each has.
 
 -- The partition is in hand with no move recorded, and this move leads to the content and grants these waits.
 pub record MayMoveBy (limit number : ℕ) (a : Account) (p : ℕ) (mine : InHand) (done : Move) (granted : List Wait)
@@ -42,8 +43,8 @@ pub record MayPutRecordedBy (a : Account) (p : ℕ) (mine : InHand) (done : Move
   pub all_marked : (other : ℕ) → mine.unmarked other ≡ false
   pub wait_is_over : WaitIsOver a.awaited p done
 
--- Marking granted a wait of somebody whom the move grants: by the first such step the move is made, by each further one it stands
--- recorded. Whom it grants waits, and is another: that need not be asked.
+-- Marking granted a wait of somebody whom the move grants: by the first such step the move is made, by each
+-- further one it stands recorded. Whom it grants waits, and is another: that need not be asked.
 pub record MayMarkFirstBy (limit number : ℕ) (a : Account) (p : ℕ) (mine : InHand) (done : Move) (granted : List Wait)
     (content : Content) (other : ℕ) : Type 0 where
   pub may_move : MayMoveBy limit number a p mine done granted content
@@ -55,7 +56,8 @@ pub record MayMarkNextBy (a : Account) (p : ℕ) (mine : InHand) (done : Move) (
   pub recorded : mine.recorded ≡ Some done
   pub still_unmarked : mine.unmarked other ≡ true
 
--- Clearing one's own wait word: a grant was seen, or the wait is gone from the content in hand, or this step takes it out.
+-- Clearing one's own wait word: a grant was seen, or the wait is gone from the content in hand, or this step
+-- takes it out.
 pub record MayClearSeenBy (a : Account) (wait : OwnWait) : Type 0 where
   pub is_wait : a.awaited ≡ Some wait
   pub has_seen : a.seen ≡ true
@@ -131,8 +133,8 @@ pub record MayUncountBy (a : Account) (tag : Tag) (mode : Mode) : Type 0 where
   pub not_own : a.own tag mode ≡ false
   pub not_awaited : is_for a.awaited tag mode ≡ false
 
--- Wait lists: locking one asks that none is in hand, the rest that one is. That a list's words show what they should need not be
--- asked, since a session in no list has a sleep word of 0, and a session in a list waits.
+-- Wait lists: locking one asks that none is in hand, the rest that one is. That a list's words show what they
+-- should need not be asked, since a session in no list has a sleep word of 0, and a session in a list waits.
 pub record MayLockListBy (a : Account) : Type 0 where
   pub no_list : a.lists.in_hand ≡ None
 

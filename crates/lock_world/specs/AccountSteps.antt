@@ -92,7 +92,8 @@ account_leaving a mine wait content unmarked = record a {
 
 -- Slots and counters.
 
--- taking the lock of a session's slots, which show this, by the session of this number, which remembers its own so
+-- taking the lock of a session's slots, which show this, by the session of this number, which remembers its
+-- own so
 abbrev pub account_taking_fast : ℕ → Account → ℕ → SlotsInHand → Account
 account_taking_fast number a owner slots = record a {
   fast = record (a.fast) {
@@ -178,7 +179,8 @@ account_unsetting number a mine place tag mode = record a {
   };
 }
 
--- moving a mode from a slot, with the lock of its session's slots held, to the content in hand of the object's partition
+-- moving a mode from a slot, with the lock of its session's slots held, to the content in hand of the
+-- object's partition
 abbrev pub account_transferring : Account → ℕ → ℕ → SlotsInHand → InHand → Tag → Mode → Account
 account_transferring a owner place its mine tag mode = record a {
   hand = set_at a.hand (partition_of tag)

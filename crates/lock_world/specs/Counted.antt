@@ -10,11 +10,11 @@ use Rattle.lock_table.specs.Content.{Holds}
 use Rattle.lock_table.specs.OwnWait.{OwnWait, is_for}
 use Rattle.lock_table.specs.Total.{total}
 
--- What a session has counted: the strong locks that it has, awaits or is about to ask for, each counted by one in the strong
--- lock counter of its object (FastPathStrongRelationLocks in lock.c).
+-- What a session has counted: the strong locks that it has, awaits or is about to ask for, each counted by
+-- one in the strong lock counter of its object (FastPathStrongRelationLocks in lock.c).
 
--- A strong lock that is counted, and the position up to which its session has moved other sessions' slots on that object to
--- the lock table: it is past each session below the position.
+-- A strong lock that is counted, and the position up to which its session has moved other sessions' slots on
+-- that object to the lock table: it is past each session below the position.
 pub record Counted : Type 0 where
   pub tag : Tag
   pub mode : Mode
@@ -36,7 +36,8 @@ uncounting list tag mode = filter (λ (c : Counted). not (is_of tag mode c)) lis
 abbrev pub passed : Tag → Mode → ℕ → Counted → Counted
 passed tag mode session c = if is_of tag mode c && (c.position == session) then record c { position = session + 1 } else c
 
--- going past a session that has no slot on the object (a turn of the loop of FastPathTransferRelationLocks in lock.c)
+-- going past a session that has no slot on the object (a turn of the loop of FastPathTransferRelationLocks in
+-- lock.c)
 abbrev pub passing : List Counted → Tag → Mode → ℕ → List Counted
 passing list tag mode session = map (passed tag mode session) list
 
@@ -82,7 +83,8 @@ abbrev pub PastHasNoSlot : (ℕ → List Counted) → Holds → Type 0
 PastHasNoSlot counted slots =
     (session other : ℕ) (tag : Tag) (mode : Mode) → is_past (counted session) tag other ≡ true → slots other tag mode ≡ false
 
--- What a move asks of the counts: where it grants or queues a strong mode, this is counted, and past each session.
+-- What a move asks of the counts: where it grants or queues a strong mode, this is counted, and past each
+-- session.
 abbrev pub IsCountedFor : ℕ → List Counted → Move → Type 0
 IsCountedFor limit counted Keep = Unit {0}
 IsCountedFor limit counted (Grant tag mode) = is_strong_on tag mode ≡ true → is_done limit counted tag mode ≡ true

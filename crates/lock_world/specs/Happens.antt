@@ -26,7 +26,8 @@ use Rattle.lock_world.specs.WaitLists.{partition_lock, fast_lock}
 use Rattle.lock_world.specs.Happens.Lists.{MayLockList, after_locking_partition_list, after_locking_fast_list, HasList, after_unlocking_partition_list, after_unlocking_fast_list, MayJoinList, after_joining_list, MayLeaveList, after_leaving_the_list, MayTakeOff, after_taking_off_the_list, MayTell, after_telling_one, MayLoadSleep, after_loading_sleep, MaySetReleaseOk, MaySetHasWaiters, after_flagging_partition, after_flagging_fast}
 use Rattle.lock_world.specs.Happens.Waits.{after_asking, MayLoadWait, after_loading_wait, HappensSetting, HappensMarking, HappensClearing}
 
--- Lightweight locks: the words of partitions and of sessions' fast-path slots. With the latter no move is made.
+-- Lightweight locks: the words of partitions and of sessions' fast-path slots. With the latter no move is
+-- made.
 
 -- A word is taken exclusively, where that is lawful.
 abbrev pub HappensTaking : World → ℕ → Word → World → Type 0
@@ -157,7 +158,8 @@ Lawful w event = (v : World) × Happens w event v
 abbrev pub Next : World → Event → World → Type 0
 Next w event v = Happens w event v ⊎ ((Lawful w event → ⊥) × (v ≡ w))
 
--- A run by the Worlds on its way: each event in its turn leads on to the next World, those that are not lawful being skipped.
+-- A run by the Worlds on its way: each event in its turn leads on to the next World, those that are not
+-- lawful being skipped.
 abbrev pub RunsThrough : World → List Event → List World → Type 0
 RunsThrough w [] [] = Unit {0}
 RunsThrough w [] (u ∷ worlds) = ⊥

@@ -15,7 +15,8 @@ use Rattle.lock_table.specs.Moves.{Moves, Adopts, IsInPartition}
 use Rattle.lock_table.specs.Put.{set_at}
 use Rattle.lock_world.specs.World.{World, Hand, Contents, Numbers, TraceEntry, Took, Episode, AskedToCancel, Loaded, recorded_in, is_unmarked}
 
--- What holds between any two atomic steps: the promise, and the facts that carry it from one step to the next.
+-- What holds between any two atomic steps: the promise, and the facts that carry it from one step to the
+-- next.
 
 -- How far each wait has come, as its word and the hand that has its partition tell.
 
@@ -34,8 +35,8 @@ is_leave_of (Some (Release other mode)) tag = false
 is_leave_of (Some (Leave other)) tag = tag_eq other tag
 is_leave_of (Some (Adopt owner slot)) tag = false
 
--- the stage of a wait by the hand alone: granted where the grant stands unmarked in the hand, and left where its own session's hand has
--- recorded that
+-- the stage of a wait by the hand alone: granted where the grant stands unmarked in the hand, and left where
+-- its own session's hand has recorded that
 abbrev pub stage_by_hand : Option Hand → ℕ → Tag → Stage
 stage_by_hand hand session tag =
     if is_unmarked hand session then WasGranted
@@ -59,16 +60,17 @@ NoConflictingHolds now =
     (p : ℕ) (session other : ℕ) (tag : Tag) (mode its : Mode) → session ≢ other
     → (now p).holds session tag mode ≡ true → (now p).holds other tag its ≡ true → conflict mode its ≡ false
 
--- On one object the content and the sessions' own accounts agree: each own hold is there, and nothing else but pending
--- grants; and a session has in the queue just the wait that it recorded, while that waits, with what it recorded.
+-- On one object the content and the sessions' own accounts agree: each own hold is there, and nothing else
+-- but pending grants; and a session has in the queue just the wait that it recorded, while that waits, with
+-- what it recorded.
 pub record AgreesOn (content : Content) (tag : Tag) (own : Holds) (awaited : ℕ → Option OwnWait) (stage : ℕ → Stage) : Type 0 where
   pub held : (session : ℕ) (mode : Mode) →
       content.holds session tag mode ≡ (own session tag mode || is_pending (awaited session) (stage session) tag mode)
   pub in_queue : (session : ℕ) →
       filter (λ wait. wait.session == session) (content.waits tag) ≡ queued_by session (awaited session) (stage session) tag
 
--- Each own hold, each pending grant and each wait of a session is in exactly one place, the content of the object's
--- partition, and the contents have nothing else. What a session awaits is no own hold of it.
+-- Each own hold, each pending grant and each wait of a session is in exactly one place, the content of the
+-- object's partition, and the contents have nothing else. What a session awaits is no own hold of it.
 pub record AreInOnePlace (now : ℕ → Content) (own : Holds) (awaited : ℕ → Option OwnWait) (stage : ℕ → Stage) : Type 0 where
   pub on_object : (tag : Tag) → AgreesOn (now (partition_of tag)) tag own awaited stage
   pub no_hold_elsewhere : (p session : ℕ) (tag : Tag) (mode : Mode) → (now p).holds session tag mode ≡ true → partition_of tag ≡ p
@@ -79,8 +81,8 @@ pub record AreInOnePlace (now : ℕ → Content) (own : Holds) (awaited : ℕ �
 abbrev pub NobodyIsFree : (ℕ → Content) → Type 0
 NobodyIsFree now = (p : ℕ) (tag : Tag) → NoneFree (now p) tag
 
--- A lightweight word shows exactly the sessions that hold it: its bit 24 is set exactly where one session, and no more,
--- holds it exclusively, its count is the number of those that share it, and never both.
+-- A lightweight word shows exactly the sessions that hold it: its bit 24 is set exactly where one session,
+-- and no more, holds it exclusively, its count is the number of those that share it, and never both.
 pub record ShowsHolders (limit word : ℕ) (holds shares : ℕ → Bool) : Type 0 where
   pub held_is_shown : (session : ℕ) → holds session ≡ true → IsHeldExclusively word
   pub shown_is_held : IsHeldExclusively word → (session : ℕ) × (holds session ≡ true)
@@ -93,9 +95,9 @@ pub record ShowsHolders (limit word : ℕ) (holds shares : ℕ → Bool) : Type 
 abbrev pub WordsShowHolders : ℕ → (ℕ → ℕ) → (ℕ → ℕ → Bool) → (ℕ → ℕ → Bool) → Type 0
 WordsShowHolders limit word holds shares = (p : ℕ) → ShowsHolders limit (word p) (λ session. holds session p) (λ session. shares session p)
 
--- A wait word shows 0 where its session has no wait, else that it waits or that its wait was granted. A session has seen a
--- grant only where its word shows it; and a grant stands unmarked in a hand only of a session that waits on an object of its
--- partition, and whose hand it is not.
+-- A wait word shows 0 where its session has no wait, else that it waits or that its wait was granted. A
+-- session has seen a grant only where its word shows it; and a grant stands unmarked in a hand only of a
+-- session that waits on an object of its partition, and whose hand it is not.
 pub record WaitWordsShowWaits (word : ℕ → ℕ) (awaited : ℕ → Option OwnWait) (seen : ℕ → Bool) (hand : ℕ → Option Hand) : Type 0 where
   pub idle : (session : ℕ) → awaited session ≡ None → wait_state (word session) ≡ 0
   pub waiting :
@@ -128,8 +130,8 @@ pub record Promise (w : World) : Type 0 where
 abbrev pub HandsAreHolders : (ℕ → Option Hand) → (ℕ → ℕ → Bool) → Type 0
 HandsAreHolders hand holds = (p session : ℕ) → holds session p ≡ is_hand_of (hand p) session
 
--- Live numbers are given out, no more than there are, of which a word's count can hold each; and only live sessions are kept
--- apart, by live ones.
+-- Live numbers are given out, no more than there are, of which a word's count can hold each; and only live
+-- sessions are kept apart, by live ones.
 pub record NumbersAreInOrder (numbers : Numbers) : Type 0 where
   pub live_is_issued : (session : ℕ) → numbers.live session ≡ true → session < numbers.issued
   pub within : numbers.issued ≤ numbers.limit
@@ -166,7 +168,8 @@ abbrev pub taken_by : (ℕ → Option Content) → List TraceEntry → ℕ → O
 taken_by taken [] = taken
 taken_by taken (entry ∷ trace) = taken_by (taken_after taken entry) trace
 
--- A hold that a slot could have, on an object of the partition: in a mode and on a relation that are eligible for some database.
+-- A hold that a slot could have, on an object of the partition: in a mode and on a relation that are eligible
+-- for some database.
 pub record IsAdopted (partition : ℕ) (tag : Tag) (mode : Mode) : Type 0 where
   pub object : partition_of tag ≡ partition
   pub database : ℕ
@@ -178,7 +181,8 @@ AddsAdopted partition before owner after =
     (tag : Tag) (mode : Mode) → after.holds owner tag mode ≡ true
     → (before.holds owner tag mode ≡ true) ⊎ IsAdopted partition tag mode
 
--- The move of the session, in all its steps, is on an object of the partition, and leads from the one content to the other.
+-- The move of the session, in all its steps, is on an object of the partition, and leads from the one content
+-- to the other.
 abbrev pub Makes : ℕ → Content → ℕ → Move → Content → Type 0
 Makes partition taken session done now =
     ((granted : List Wait) × IsInPartition partition done × Moves taken session done granted now)
@@ -188,7 +192,8 @@ Makes partition taken session done now =
 abbrev pub IsOneMove : ℕ → Content → ℕ → Content → Type 0
 IsOneMove partition taken session now = (done : Move) × Makes partition taken session done now
 
--- An episode is of a partition that the session had in hand, with the content that it took, and puts what one move makes of it.
+-- An episode is of a partition that the session had in hand, with the content that it took, and puts what one
+-- move makes of it.
 abbrev pub EntryIsSound : ℕ → (ℕ → Option Content) → TraceEntry → Type 0
 EntryIsSound session taken (Took partition content) = Unit {0}
 EntryIsSound session taken (Episode partition content put_back) =
@@ -216,8 +221,9 @@ abbrev pub HandIsOneMove : ℕ → Option Hand → Content → Type 0
 HandIsOneMove partition None now = Unit {0}
 HandIsOneMove partition (Some hand) now = IsMadeBy partition hand.recorded hand.taken hand.holder now
 
--- Each content in hand is the content taken after one move at most; each episode in a trace put such a content, of a partition
--- that the session had in hand until then; and a number not yet given out has no trace.
+-- Each content in hand is the content taken after one move at most; each episode in a trace put such a
+-- content, of a partition that the session had in hand until then; and a number not yet given out has no
+-- trace.
 pub record TracesTell (contents : Contents) (trace : ℕ → List TraceEntry) (issued : ℕ) : Type 0 where
   pub one_move : (p : ℕ) → HandIsOneMove p (contents.hand p) (contents.now p)
   pub in_hand : (session p : ℕ) → taken_by (λ _. None) (trace session) p ≡ taken_in (contents.hand p) session
@@ -226,7 +232,8 @@ pub record TracesTell (contents : Contents) (trace : ℕ → List TraceEntry) (i
 
 -- What is safe of the words of sessions' fast-path locks, and of sharing.
 
--- The words of fast-path locks show who holds them, and a number that is not live holds none and shares no word.
+-- The words of fast-path locks show who holds them, and a number that is not live holds none and shares no
+-- word.
 pub record LocksAreShown (limit : ℕ) (live : ℕ → Bool) (fast : ℕ → ℕ)
     (holds_fast shares_fast shares_partition : ℕ → ℕ → Bool) : Type 0 where
   pub fast_words : WordsShowHolders limit fast holds_fast shares_fast

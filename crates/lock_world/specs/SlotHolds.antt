@@ -6,11 +6,11 @@ pub use Rattle.modes_core.specs.Tag.{relation_of}
 use Rattle.lw_word.specs.SlotWord.{relation_in, in_use, shows}
 use Rattle.lock_table.specs.Total.{how_many}
 
--- Which holds a session's fast-path slots show, with the word of its database (`fpRelId`, `fpLockBits` and `databaseId` of a
--- PGPROC).
+-- Which holds a session's fast-path slots show, with the word of its database (`fpRelId`, `fpLockBits` and
+-- `databaseId` of a PGPROC).
 
--- A session's slots come in groups of as many (FP_LOCK_SLOTS_PER_BACKEND in proc.h, in version 18 FP_LOCK_SLOTS_PER_GROUP).
--- Each relation has its group, and only slots of that group are used for it.
+-- A session's slots come in groups of as many (FP_LOCK_SLOTS_PER_BACKEND in proc.h, in version 18
+-- FP_LOCK_SLOTS_PER_GROUP). Each relation has its group, and only slots of that group are used for it.
 
 -- how many slots a group has
 abbrev pub group_size : ℕ
@@ -20,12 +20,13 @@ group_size = 16
 abbrev pub most_groups : ℕ
 most_groups = 8
 
--- how many places for slots a session has, those of all groups that there can be; slots past those of the groups that there
--- are are never set
+-- how many places for slots a session has, those of all groups that there can be; slots past those of the
+-- groups that there are are never set
 abbrev pub slot_count : ℕ
 slot_count = 128
 
--- the group of a relation, of this many groups (in version 18 FAST_PATH_REL_GROUP in lock.c, which multiplies the number first)
+-- the group of a relation, of this many groups (in version 18 FAST_PATH_REL_GROUP in lock.c, which multiplies
+-- the number first)
 abbrev pub group_of_relation : ℕ → ℕ → ℕ
 group_of_relation groups relation = relation % groups
 
@@ -53,8 +54,8 @@ ShowsNoMore slot before =
     (place relation : ℕ) (mode : Mode) → place < slot_count
     → shows (slot place) relation mode ≡ true → shows (before place) relation mode ≡ true
 
--- how many of a group's slots are in use (of slots as their session remembers them, FastPathLocalUseCount in lock.c, in
--- version 18 FastPathLocalUseCounts)
+-- how many of a group's slots are in use (of slots as their session remembers them, FastPathLocalUseCount in
+-- lock.c, in version 18 FastPathLocalUseCounts)
 abbrev pub used_in : ℕ → (ℕ → ℕ) → ℕ
 used_in group slot = how_many group_size (λ k. in_use (slot (place_in_group group k)))
 
@@ -87,8 +88,8 @@ NoSlotInUse slot = (place : ℕ) → place < slot_count → in_use (slot place) 
 abbrev pub InUseHasDatabase : ℕ → (ℕ → ℕ) → Type 0
 InUseHasDatabase database slot = (place : ℕ) → place < slot_count → in_use (slot place) ≡ true → database ≢ 0
 
--- The slot that a grant takes, in the relation's group: the one in use for the relation, or one not in use where the group
--- has none for it (FastPathGrantRelationLock in lock.c).
+-- The slot that a grant takes, in the relation's group: the one in use for the relation, or one not in use
+-- where the group has none for it (FastPathGrantRelationLock in lock.c).
 pub record IsSlotToGrant (groups : ℕ) (slot : ℕ → ℕ) (relation place : ℕ) : Type 0 where
   pub within : place < slot_count
   pub usable : may_use groups relation place ≡ true

@@ -11,7 +11,8 @@ use Rattle.lock_table.specs.Total.{total}
 use Rattle.lock_world.specs.SlotHolds.{group_size, slot_holds, OneSlotEach, AreInGroups}
 use Rattle.lock_world.specs.Account.{Account}
 
--- What is counted where all sessions stand still: what slots show, what contents have, and what the sessions own.
+-- What is counted where all sessions stand still: what slots show, what contents have, and what the sessions
+-- own.
 
 -- this many lists, one after another
 unfoldable pub joined : {X : Type 0} → ℕ → (ℕ → List X) → List X
@@ -47,9 +48,9 @@ pub record AreSoMany (own : Tag → Mode → Bool) (many : ℕ) : Type 0 where
 abbrev pub left_in_slots : (Tag → Mode → Bool) → (ℕ → Content) → ℕ → Tag → Mode → Bool
 left_in_slots own contents number tag mode = own tag mode && not ((contents (partition_of tag)).holds number tag mode)
 
--- Where the holds of the session of this number are, with this many groups of slots, as the partitions have these contents: what
--- contents have of it is own, and what they haven't shows in its slots as it remembers them, where a relation has one slot at
--- most, in its group.
+-- Where the holds of the session of this number are, with this many groups of slots, as the partitions have
+-- these contents: what contents have of it is own, and what they haven't shows in its slots as it remembers
+-- them, where a relation has one slot at most, in its group.
 pub record OwnStand (groups number : ℕ) (a : Account) (contents : ℕ → Content) : Type 0 where
   pub one_each : OneSlotEach a.fast.remembered
   pub in_groups : AreInGroups groups a.fast.remembered
@@ -59,7 +60,8 @@ pub record OwnStand (groups number : ℕ) (a : Account) (contents : ℕ → Cont
   pub in_contents :
       (tag : Tag) (mode : Mode) → (contents (partition_of tag)).holds number tag mode ≡ true → a.own tag mode ≡ true
 
--- What the word of the session's slot at this place shows: of what the session remembers there, its own holds that no content has.
+-- What the word of the session's slot at this place shows: of what the session remembers there, its own holds
+-- that no content has.
 abbrev pub ShowsLeft : ℕ → Account → (ℕ → Content) → ℕ → ℕ → Type 0
 ShowsLeft number a contents place word =
     (relation : ℕ) (mode : Mode) →

@@ -4,8 +4,8 @@ use Rattle.lw_word.specs.LightweightWord.{IsListLocked}
 use Rattle.lw_word.specs.WaitList.{stands_in, times_in, without}
 use Rattle.lock_table.specs.Put.{set_at}
 
--- The wait lists of lightweight locks, and who sleeps (`waiters` of an LWLock, `lwWaiting` of a PGPROC). Locks go by a number of their
--- own here: what a step does to its list is the same whatever the lock guards.
+-- The wait lists of lightweight locks, and who sleeps (`waiters` of an LWLock, `lwWaiting` of a PGPROC).
+-- Locks go by a number of their own here: what a step does to its list is the same whatever the lock guards.
 
 -- the number of a partition's lock, and of the lock of a session's fast-path slots
 abbrev pub partition_lock : ℕ → ℕ
@@ -19,7 +19,8 @@ fast_lock owner = 2 * owner + 1
 abbrev pub lock_word : (ℕ → ℕ) → (ℕ → ℕ) → ℕ → ℕ
 lock_word partition fast lock = if lock % 2 == 0 then partition (lock / 2) else fast (lock / 2)
 
--- The word of a lock shows who has its wait list in hand: its bit is set exactly where one session has it, and no more.
+-- The word of a lock shows who has its wait list in hand: its bit is set exactly where one session has it,
+-- and no more.
 pub record ShowsList (word lock : ℕ) (has_list : ℕ → Option ℕ) : Type 0 where
   pub had_is_shown : (session : ℕ) → has_list session ≡ Some lock → IsListLocked word
   pub shown_is_had : IsListLocked word → (session : ℕ) × (has_list session ≡ Some lock)
@@ -36,8 +37,9 @@ pub record Sleepers : Type 0 where
   -- whom each session has taken off a list and not told yet
   pub off : ℕ → ℕ → Bool
 
--- A session stands only in the list that its account names, once, and with a sleep word that shows waiting; where its account names
--- none, the word shows 0. Whom somebody has taken off and not told shows that, and nobody else has it to tell.
+-- A session stands only in the list that its account names, once, and with a sleep word that shows waiting;
+-- where its account names none, the word shows 0. Whom somebody has taken off and not told shows that, and
+-- nobody else has it to tell.
 pub record SleepersAreInOrder (s : Sleepers) : Type 0 where
   pub named : (lock session : ℕ) → stands_in session (s.list lock) ≡ true → s.stands session ≡ Some lock
   pub waiting : (lock session : ℕ) → stands_in session (s.list lock) ≡ true → s.sleep session ≡ 1
@@ -46,8 +48,8 @@ pub record SleepersAreInOrder (s : Sleepers) : Type 0 where
   pub taken_off : (session other : ℕ) → s.off session other ≡ true → s.sleep other ≡ 2
   pub by_one : (session another other : ℕ) → s.off session other ≡ true → s.off another other ≡ true → session ≡ another
 
--- What is safe of wait lists: words show who has a list in hand, who sleeps is in order, and a number that is not live has no list
--- in hand and stands in none.
+-- What is safe of wait lists: words show who has a list in hand, who sleeps is in order, and a number that is
+-- not live has no list in hand and stands in none.
 pub record ListsAreSafe (partition fast : ℕ → ℕ) (s : Sleepers) (has_list : ℕ → Option ℕ) (live : ℕ → Bool) : Type 0 where
   pub shown : (lock : ℕ) → ShowsList (lock_word partition fast lock) lock has_list
   pub sleepers : SleepersAreInOrder s

@@ -1,7 +1,8 @@
 use Rattle.std.specs.Prelude.{ℕ, ◌+◌, ◌/◌, ◌%◌, Bool, ◌==◌, bit_or}
 
--- A session's wait word: bits 0 to 1 are 0 where it doesn't wait, 1 where it waits and 2 where its wait was granted
--- (waitStatus in proc.h), and bit 2 is set where it was asked to cancel (QueryCancelPending in globals.c).
+-- A session's wait word: bits 0 to 1 are 0 where it doesn't wait, 1 where it waits and 2 where its wait was
+-- granted (waitStatus in proc.h), and bit 2 is set where it was asked to cancel (QueryCancelPending in
+-- globals.c).
 
 -- bits 0 to 1
 abbrev pub wait_state : ℕ → ℕ

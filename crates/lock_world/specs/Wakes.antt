@@ -14,10 +14,12 @@ use Rattle.lock_world.specs.Wakes.Waking.{HasLock, NoneOr, Owes, IsAsleep}
 use Rattle.lock_world.specs.Wakes.Calling.{Calls, IsParked, ShowsUntold, calling, wait_calls_after, sleep_calls_after, no_calls}
 use Rattle.lock_world.specs.Wakes.Owing.{Duties, waking, no_duties, duties_after, after_attempt, after_looking, HasNothingToDo, Asks, AsksInOrder}
 
--- No sleeper is forgotten, no call is lost, and no circle of sleepers comes: of every run whose steps keep to what their sessions
--- have to do for those who wait. What they have to do is kept beside the World, and changes with each step.
+-- No sleeper is forgotten, no call is lost, and no circle of sleepers comes: of every run whose steps keep to
+-- what their sessions have to do for those who wait. What they have to do is kept beside the World, and
+-- changes with each step.
 
--- What stands beside the World: duties for those who wait for lightweight locks, and calls on wait words and on sleep words.
+-- What stands beside the World: duties for those who wait for lightweight locks, and calls on wait words and
+-- on sleep words.
 pub record Beside : Type 0 where
   pub duties : Duties
   pub waits : Calls
@@ -27,7 +29,8 @@ pub record Beside : Type 0 where
 abbrev pub nothing_beside : Beside
 nothing_beside = record { duties = no_duties; waits = no_calls; sleeps = no_calls }
 
--- A turn of a run: an event of the World; a look at a word, which tells its session that another has the list or the lock; or a call.
+-- A turn of a run: an event of the World; a look at a word, which tells its session that another has the list
+-- or the lock; or a call.
 pub data Turn : Type 0 where
   happened : (event : Event) → Turn
   saw_list_locked : (session lock : ℕ) → Turn
@@ -71,11 +74,13 @@ abbrev pub RunsBy : (World → Beside → Turn → World → Type 0) → World �
 RunsBy each w b [] v d = (v ≡ w) × (d ≡ b)
 RunsBy each w b (turn ∷ turns) v d = (u : World) × each w b turn u × RunsBy each u (beside_after w b turn) turns v d
 
--- A run from the opening World, of `limit` sessions with `groups` groups of slots, whose turns keep to what their sessions have to do.
+-- A run from the opening World, of `limit` sessions with `groups` groups of slots, whose turns keep to what
+-- their sessions have to do.
 abbrev pub RunKeeps : ℕ → ℕ → List Turn → World → Beside → Type 0
 RunKeeps limit groups turns v d = (limit < 2 ^ 24) × RunsBy Keeps (opening limit groups) nothing_beside turns v d
 
--- A run from the opening World whose turns keep to what their sessions have to do, and take lightweight locks in their order.
+-- A run from the opening World whose turns keep to what their sessions have to do, and take lightweight locks
+-- in their order.
 abbrev pub RunKeepsInOrder : ℕ → ℕ → List Turn → World → Beside → Type 0
 RunKeepsInOrder limit groups turns v d = (limit < 2 ^ 24) × RunsBy KeepsInOrder (opening limit groups) nothing_beside turns v d
 
@@ -88,23 +93,23 @@ abbrev pub OnlyLiveOwe : World → Beside → Type 0
 OnlyLiveOwe w b =
     (session : ℕ) → MakesNoStep w.numbers session → HasNothingToDo w b.duties b.waits b.sleeps session
 
--- A sleeper stands in its list, and a session that makes steps has that lock or something to do for it; or the sleeper was taken off, and
--- a session that makes steps has it to tell.
+-- A sleeper stands in its list, and a session that makes steps has that lock or something to do for it; or
+-- the sleeper was taken off, and a session that makes steps has it to tell.
 abbrev pub IsLookedAfter : World → Beside → ℕ → ℕ → Type 0
 IsLookedAfter w b session lock =
     ((stands_in session (w.words.list lock) ≡ true)
     × ((other : ℕ) × Owes (waking w b.duties) lock other × MakesSteps w.numbers other))
     ⊎ ((other : ℕ) × (w.sessions.off other session ≡ true) × MakesSteps w.numbers other)
 
--- A session that is parked on what its word does not show any more is owed a call, by a session that makes steps and is not parked
--- itself.
+-- A session that is parked on what its word does not show any more is owed a call, by a session that makes
+-- steps and is not parked itself.
 abbrev pub NoCallIsLost : World → (ℕ → Type 0) → (ℕ → ℕ) → Calls → Type 0
 NoCallIsLost w ParksOn word c =
     (session shown : ℕ) → IsParked ParksOn c session shown → word session ≢ shown
     → (other : ℕ) × (c.owed other session ≡ true) × MakesSteps w.numbers other × ((its : ℕ) → IsParked ParksOn c other its → ⊥)
 
--- A run that keeps to all of this, in which a session falls asleep for a lightweight lock, and one that goes on from there until the
--- session has it. So what is asked of a run can be met.
+-- A run that keeps to all of this, in which a session falls asleep for a lightweight lock, and one that goes
+-- on from there until the session has it. So what is asked of a run can be met.
 pub record SleepAndWakeup : Type 0 where
   pub limit : ℕ
   pub groups : ℕ

@@ -9,8 +9,8 @@ use Rattle.lock_table.specs.OwnWait.{OwnWait}
 use Rattle.lock_world.specs.SlotHolds.{group_size}
 use Rattle.lock_world.specs.Counted.{Counted}
 
--- The World is all that there is between two atomic steps: what each word shows, each content wherever it is, what each
--- session has by its own account, and which session numbers are in use.
+-- The World is all that there is between two atomic steps: what each word shows, each content wherever it is,
+-- what each session has by its own account, and which session numbers are in use.
 
 -- What the words of the shared table show, a field for each range of words.
 pub record Words : Type 0 where
@@ -26,13 +26,14 @@ pub record Words : Type 0 where
   pub wait : ℕ → ℕ
   -- the strong lock counters
   pub strong : ℕ → ℕ
-  -- each session's sleep word: 0 not waiting for a lightweight lock, 1 waiting, 2 taken off the list and to be told
+  -- each session's sleep word: 0 not waiting for a lightweight lock, 1 waiting, 2 taken off the list and to
+  -- be told
   pub sleep : ℕ → ℕ
   -- who waits for each lightweight lock, first come first, by the lock's number
   pub list : ℕ → List LwWaiter
 
--- A partition's content in a session's hand: whose hand it is, the content as it was taken, and what the session has made
--- of it.
+-- A partition's content in a session's hand: whose hand it is, the content as it was taken, and what the
+-- session has made of it.
 pub record Hand : Type 0 where
   pub holder : ℕ
   pub taken : Content
@@ -79,7 +80,8 @@ pub record Sessions : Type 0 where
   pub zero : ℕ → Option ℕ
   -- the words of its own slots as it last saw or stored them; others may have cleared modes there since
   pub remembered : ℕ → ℕ → ℕ
-  -- the lightweight lock whose wait list it has in hand, and the one in whose list it stands, by their numbers
+  -- the lightweight lock whose wait list it has in hand, and the one in whose list it stands, by their
+  -- numbers
   pub has_list : ℕ → Option ℕ
   pub stands : ℕ → Option ℕ
   -- whom it has taken off a list and not told yet
@@ -111,7 +113,8 @@ abbrev pub recorded_in : Option Hand → Option Move
 recorded_in None = None
 recorded_in (Some hand) = hand.recorded
 
--- whether the hand has a grant of the session unmarked: its move granted the wait, and the wait word is not marked yet
+-- whether the hand has a grant of the session unmarked: its move granted the wait, and the wait word is not
+-- marked yet
 abbrev pub is_unmarked : Option Hand → ℕ → Bool
 is_unmarked None session = false
 is_unmarked (Some hand) session = hand.unmarked session
@@ -121,8 +124,8 @@ pub record MakesSteps (numbers : Numbers) (session : ℕ) : Type 0 where
   pub live : numbers.live session ≡ true
   pub by_itself : numbers.kept_by session ≡ None
 
--- The World before the first step, of `limit` sessions with `groups` groups of slots: all is empty, and only release-ok is
--- set, in each lightweight word.
+-- The World before the first step, of `limit` sessions with `groups` groups of slots: all is empty, and only
+-- release-ok is set, in each lightweight word.
 abbrev pub opening : ℕ → ℕ → World
 opening limit groups = record {
   words = record {

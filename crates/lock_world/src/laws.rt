@@ -33,8 +33,8 @@ ghost use Rattle.lock_world.specs.Headline.{NoTwoConflict, Headline, RefusalsSaw
 ghost use Rattle.lock_world.specs.Account.{IsLeftAlone, account};
 ghost use Rattle.lock_world.specs.Closed.{empty_account};
 
-/// The World before the first event is safe, of any number of sessions that the count of a lightweight word can
-/// hold, with any number of groups of slots.
+/// The World before the first event is safe, of any number of sessions that the count of a lightweight word
+/// can hold, with any number of groups of slots.
 pub fn opening_is_safe()
     ensures { (limit groups : ℕ) → limit < 2 ^ 24 → SafeWorld (opening limit groups) }
 {}
@@ -60,27 +60,28 @@ pub fn one_world_comes()
         Runs (opening limit groups) events w → Runs (opening limit groups) events v → w ≡ v }
 {}
 
-/// Every safe World has the headline: no two sessions have conflicting modes on one object, wherever these are held;
-/// each hold is in one place, one slot or the content of one partition, so as many sessions have a mode on an object
-/// as slots show it and the content has it together; and each strong lock counter is how much is counted.
+/// Every safe World has the headline: no two sessions have conflicting modes on one object, wherever these
+/// are held; each hold is in one place, one slot or the content of one partition, so as many sessions have a
+/// mode on an object as slots show it and the content has it together; and each strong lock counter is how
+/// much is counted.
 pub fn no_two_sessions_conflict()
     ensures no_two_conflict { (w : World) → SafeWorld w → NoTwoConflict w }
     ensures whole { (w : World) → SafeWorld w → Headline w }
 {}
 
-/// A refusal saw what it names: where the content that a session took has something in the way of a conditional request of its
-/// own, a World on the way of the run, the one in which the session took that content, had just that in the way. In that World
-/// the session that the refusal names, another one, had the named mode on the object, or awaited it, in conflict with the mode
-/// asked for.
+/// A refusal saw what it names: where the content that a session took has something in the way of a
+/// conditional request of its own, a World on the way of the run, the one in which the session took that
+/// content, had just that in the way. In that World the session that the refusal names, another one, had the
+/// named mode on the object, or awaited it, in conflict with the mode asked for.
 pub fn a_refusal_saw_what_it_names()
     ensures { (limit groups : ℕ) (events : List Event) (worlds : List World) → limit < 2 ^ 24 →
         RunsThrough (opening limit groups) events worlds →
         RefusalsSawWhatTheyName (opening limit groups ∷ worlds) (last_of (opening limit groups) worlds) }
 {}
 
-/// In a safe World no two sessions hold conflicting modes on one object, wherever the holds are: both in contents of
-/// partitions, one in a fast-path slot (two in slots never conflict by their modes), and so by the sessions' own
-/// accounts.
+/// In a safe World no two sessions hold conflicting modes on one object, wherever the holds are: both in
+/// contents of partitions, one in a fast-path slot (two in slots never conflict by their modes), and so by
+/// the sessions' own accounts.
 pub fn no_two_conflicting_holds()
     ensures in_contents { (w : World) → SafeWorld w →
         (p session other : ℕ) (tag : Tag) (mode its : Mode) → session ≢ other →
@@ -95,13 +96,14 @@ pub fn no_two_conflicting_holds()
         w.sessions.own session tag mode ≡ true → w.sessions.own other tag its ≡ true → conflict mode its ≡ false }
 {}
 
-/// In a safe World a hold is in a content exactly where the object is of that partition and the hold is the session's own and
-/// in none of its slots, or its pending grant: what it awaits, where its wait word shows that this was granted, or that grant
-/// is unmarked in the hand that has the partition. What a slot shows is its session's own hold, and is in no content and in no
-/// other slot; a relation has one slot of a session at most, whatever its modes, and that one is of the relation's group, so
-/// past the groups that there are none is in use. Each mode bit of a slot is such a hold, on the relation of that number in the
-/// session's database: a session that has a slot in use has a database. What a session awaits is no own hold of it, so no hold
-/// is both.
+/// In a safe World a hold is in a content exactly where the object is of that partition and the hold is the
+/// session's own and in none of its slots, or its pending grant: what it awaits, where its wait word shows
+/// that this was granted, or that grant is unmarked in the hand that has the partition. What a slot shows is
+/// its session's own hold, and is in no content and in no other slot; a relation has one slot of a session at
+/// most, whatever its modes, and that one is of the relation's group, so past the groups that there are none
+/// is in use. Each mode bit of a slot is such a hold, on the relation of that number in the session's
+/// database: a session that has a slot in use has a database. What a session awaits is no own hold of it, so
+/// no hold is both.
 pub fn each_hold_in_one_place()
     ensures in_content { (w : World) → SafeWorld w →
         (p session : ℕ) (tag : Tag) (mode : Mode) →
@@ -135,10 +137,10 @@ pub fn each_hold_in_one_place()
         w.sessions.own session tag mode ≡ false }
 {}
 
-/// In a safe World each strong lock counter is how much is counted at its index: by each session, each mode on
-/// each object once at most. A strong mode that a session has, or awaits, is counted and past each session, and so
-/// is each strong hold and each strong wait in a content; and where something counted for an object is past a
-/// session, no slot of that session has the object.
+/// In a safe World each strong lock counter is how much is counted at its index: by each session, each mode
+/// on each object once at most. A strong mode that a session has, or awaits, is counted and past each
+/// session, and so is each strong hold and each strong wait in a content; and where something counted for an
+/// object is past a session, no slot of that session has the object.
 pub fn counters_show_what_is_counted()
     ensures shown { (w : World) → SafeWorld w → (index : ℕ) →
         w.words.strong index ≡ counter w.numbers.limit w.sessions.counted index }
@@ -160,9 +162,10 @@ pub fn counters_show_what_is_counted()
         slots_of w.words.database w.words.slot other tag mode ≡ false }
 {}
 
-/// In a safe World a session that has read a strong lock counter as 0, and has not put the lock of its own slots
-/// since, holds that lock, and nothing that anybody has counted for an object of that index is past it, granted or
-/// not. So nobody has a strong mode on such an object, nor awaits one, and the session may set a slot for it.
+/// In a safe World a session that has read a strong lock counter as 0, and has not put the lock of its own
+/// slots since, holds that lock, and nothing that anybody has counted for an object of that index is past it,
+/// granted or not. So nobody has a strong mode on such an object, nor awaits one, and the session may set a
+/// slot for it.
 pub fn a_counter_read_as_zero_is_a_permission()
     ensures lock_is_held { (w : World) → SafeWorld w → (session index : ℕ) → w.sessions.zero session ≡ Some index →
         w.sessions.holds_fast session session ≡ true }
@@ -180,8 +183,9 @@ pub fn nobody_who_waits_is_free()
         (p : ℕ) (tag : Tag) → NoneFree (w.contents.now p) tag }
 {}
 
-/// In a safe World each entry of a queue, at any place, is the wait that its session has recorded, on the object of the queue,
-/// which is an object of the partition that has the queue. A session is at most once in a queue, and in one queue at most.
+/// In a safe World each entry of a queue, at any place, is the wait that its session has recorded, on the
+/// object of the queue, which is an object of the partition that has the queue. A session is at most once in
+/// a queue, and in one queue at most.
 pub fn a_session_waits_once()
     ensures recorded { (w : World) → SafeWorld w →
         (p place : ℕ) (tag : Tag) (entry : Wait) → slice_get ((w.contents.now p).waits tag) place ≡ Some entry →
@@ -197,9 +201,10 @@ pub fn a_session_waits_once()
         (p ≡ q) × (tag ≡ other) }
 {}
 
-/// In a safe World a wait word shows 0 exactly where its session has no wait. It shows waiting where the session is
-/// in a queue, and where it shows that and the partition is at home, the session is in its object's queue. Where it
-/// shows granted, what the session awaits is a hold in the content, and not its own yet.
+/// In a safe World a wait word shows 0 exactly where its session has no wait. It shows waiting where the
+/// session is in a queue, and where it shows that and the partition is at home, the session is in its
+/// object's queue. Where it shows granted, what the session awaits is a hold in the content, and not its own
+/// yet.
 pub fn wait_words_tell()
     ensures idle { (w : World) → SafeWorld w →
         (session : ℕ) → (wait_state (w.words.wait session) ≡ 0) ↔ (w.sessions.awaited session ≡ None) }
@@ -247,10 +252,10 @@ pub fn lightweight_words_show_who_holds_them()
         w.sessions.holds_fast session owner ≡ true → w.sessions.shares_fast other owner ≡ false }
 {}
 
-/// In a safe World the word of a lightweight lock shows that its wait list is locked exactly where a session has that list in
-/// hand, and no more than one has it. A session is only in the list that its own account names, once, and its sleep word shows
-/// that it waits; where the account names none, that word shows 0. The sleep word of a session that was taken off a list and
-/// not woken yet shows that.
+/// In a safe World the word of a lightweight lock shows that its wait list is locked exactly where a session
+/// has that list in hand, and no more than one has it. A session is only in the list that its own account
+/// names, once, and its sleep word shows that it waits; where the account names none, that word shows 0. The
+/// sleep word of a session that was taken off a list and not woken yet shows that.
 pub fn wait_lists_are_in_order()
     ensures partition_locked { (w : World) → SafeWorld w → (p : ℕ) →
         IsListLocked (w.words.partition p) ↔ ((session : ℕ) × (w.sessions.has_list session ≡ Some (partition_lock p))) }
@@ -274,9 +279,9 @@ pub fn one_hand_at_a_time()
         w.sessions.holds_partition session p ≡ true → w.sessions.holds_partition other p ≡ true → session ≡ other }
 {}
 
-/// In a safe World a session number that is not live has no hold, by its own account, in each content and in its slots, of
-/// which none is in use, no wait, recorded or in a queue, no partition in hand, no lightweight lock, exclusively or shared,
-/// nothing counted, no wait list in hand, and is in no wait list.
+/// In a safe World a session number that is not live has no hold, by its own account, in each content and in
+/// its slots, of which none is in use, no wait, recorded or in a queue, no partition in hand, no lightweight
+/// lock, exclusively or shared, nothing counted, no wait list in hand, and is in no wait list.
 pub fn spent_sessions_have_nothing()
     ensures no_hold { (w : World) → SafeWorld w →
         (session p : ℕ) (tag : Tag) (mode : Mode) → w.numbers.live session ≡ false →
@@ -300,17 +305,17 @@ pub fn spent_sessions_have_nothing()
         (w.sessions.has_list session ≡ None) × (stands_in session (w.words.list lock) ≡ false) }
 {}
 
-/// In each World of a run the account of a session number that is not live (not given out yet, or closed) has nothing in it: no
-/// hold, no wait, nothing in hand, counted, read or remembered, nobody to wake, and no step in its trace. The database in the
-/// account is the one that the word of that session's database shows.
+/// In each World of a run the account of a session number that is not live (not given out yet, or closed) has
+/// nothing in it: no hold, no wait, nothing in hand, counted, read or remembered, nobody to wake, and no step
+/// in its trace. The database in the account is the one that the word of that session's database shows.
 pub fn closed_numbers_are_forgotten()
     ensures { (limit groups : ℕ) (events : List Event) (w : World) (session : ℕ) → limit < 2 ^ 24 →
         Runs (opening limit groups) events w → w.numbers.live session ≡ false →
         account w session ≡ empty_account (w.words.database session) }
 {}
 
-/// In a safe World a session number that was not given out has no trace; a session that is kept apart is live, and so is the
-/// one that keeps it apart.
+/// In a safe World a session number that was not given out has no trace; a session that is kept apart is
+/// live, and so is the one that keeps it apart.
 pub fn numbers_are_in_order()
     ensures new { (w : World) → SafeWorld w → (session : ℕ) →
         w.numbers.issued ≤ session → w.sessions.trace session ≡ [] }
@@ -318,18 +323,19 @@ pub fn numbers_are_in_order()
         (w.numbers.live session ≡ true) × (w.numbers.live joiner ≡ true) }
 {}
 
-/// Asking a session to cancel sets bit 2 of its wait word, whatever the word is: the session is asked from then on, what the
-/// word says of the session's wait stays, and asking a second time changes nothing.
+/// Asking a session to cancel sets bit 2 of its wait word, whatever the word is: the session is asked from
+/// then on, what the word says of the session's wait stays, and asking a second time changes nothing.
 pub fn asking_sets_one_bit()
     ensures asked { (word : ℕ) → is_asked (asked_word word) ≡ true }
     ensures same_state { (word : ℕ) → wait_state (asked_word word) ≡ wait_state word }
     ensures sum { (word : ℕ) → asked_word word ≡ (if is_asked word then word else word + 4) }
 {}
 
-/// An event leaves every session alone that does not make it: its account, that is its own holds, its wait and what it has seen
-/// of that, what it has in hand with its contents, what it knows of slots, counters and wait lists, and its trace; the words
-/// that it holds; and whether its number is live and kept apart. The event leaves the wait word of such a session, or sets the
-/// bit in it that asks to cancel, or turns it from waiting into granted.
+/// An event leaves every session alone that does not make it: its account, that is its own holds, its wait
+/// and what it has seen of that, what it has in hand with its contents, what it knows of slots, counters and
+/// wait lists, and its trace; the words that it holds; and whether its number is live and kept apart. The
+/// event leaves the wait word of such a session, or sets the bit in it that asks to cancel, or turns it from
+/// waiting into granted.
 pub fn others_are_untouched()
     ensures account { (w v : World) (event : Event) (other : ℕ) →
         SafeWorld w → Happens w event v → other ≢ event.session → IsLeftAlone w v other }
@@ -339,10 +345,10 @@ pub fn others_are_untouched()
         ⊎ ((wait_state (w.words.wait other) ≡ 1) × (v.words.wait other ≡ granted_word (w.words.wait other)))) }
 {}
 
-/// In each World of a run the holds of a session that waits for nothing are in its slots or in contents: what contents have of
-/// the session is its own, and the word of each of its slots shows just its own holds that it remembers there and that no
-/// content has. In what the session remembers a relation has one slot at most, in the relation's group; and the number of
-/// groups never changes.
+/// In each World of a run the holds of a session that waits for nothing are in its slots or in contents: what
+/// contents have of the session is its own, and the word of each of its slots shows just its own holds that
+/// it remembers there and that no content has. In what the session remembers a relation has one slot at most,
+/// in the relation's group; and the number of groups never changes.
 pub fn own_holds_are_in_slots_or_contents()
     ensures stand { (limit groups : ℕ) (events : List Event) (w : World) (session : ℕ) → limit < 2 ^ 24 →
         Runs (opening limit groups) events w → w.sessions.awaited session ≡ None →
@@ -354,8 +360,9 @@ pub fn own_holds_are_in_slots_or_contents()
         ShowsLeft session (account w session) w.contents.now place (w.words.slot session place) }
 {}
 
-/// In each World of a run in which nobody waits, what all slots show and the granted rows of all contents together are
-/// as much as all sessions own; and in each World all strong lock counters together show how much is counted.
+/// In each World of a run in which nobody waits, what all slots show and the granted rows of all contents
+/// together are as much as all sessions own; and in each World all strong lock counters together show how
+/// much is counted.
 pub fn what_all_sessions_own_adds_up()
     ensures holds { (limit groups : ℕ) (events : List Event) (w : World) (rows : List TableRow) (many : ℕ → ℕ) →
         limit < 2 ^ 24 → 0 < groups → groups ≤ most_groups → Runs (opening limit groups) events w →

@@ -1,5 +1,6 @@
-//! What traces tell, in every World that a list of events leads to: of the episodes of a session, of what it has in hand,
-//! and of the words that it loaded. Each function here is a law: its clause is proved, and its body is empty.
+//! What traces tell, in every World that a list of events leads to: of the episodes of a session, of what it
+//! has in hand, and of the words that it loaded. Each function here is a law: its clause is proved, and its
+//! body is empty.
 
 ghost use Rattle.std.specs.Prelude.{◌≡◌, ◌⊎◌, ◌<◌, ◌+◌, ◌^◌, ℕ, List, [], ◌∷◌, ◌++◌, true, false, Some, None, slice_get};
 ghost use Rattle.modes_core.specs.declared.modes.Mode.{Mode};
@@ -19,9 +20,10 @@ ghost use Rattle.lock_world.specs.SafeWorld.{SafeWorld, slots_of};
 ghost use Rattle.lock_world.specs.Headline.{stands_with};
 ghost use Rattle.lock_world.specs.Listing.{StandsThereOrInContent, TellsHold};
 
-/// In a safe World each episode of a trace put what one move of its session, on an object of the partition, makes of the
-/// content that the session took: an earlier entry took just that content, and the session had it in hand until then. An adopt
-/// makes of it that content with more holds of one session, such as fast-path slots can have, on objects of the partition.
+/// In a safe World each episode of a trace put what one move of its session, on an object of the partition,
+/// makes of the content that the session took: an earlier entry took just that content, and the session had
+/// it in hand until then. An adopt makes of it that content with more holds of one session, such as fast-path
+/// slots can have, on objects of the partition.
 pub fn each_episode_is_one_move()
     ensures moved { (w : World) → SafeWorld w →
         (session p : ℕ) (taken put_back : Content) (before after : List TraceEntry) →
@@ -32,17 +34,18 @@ pub fn each_episode_is_one_move()
         (first : List TraceEntry) × (since : List TraceEntry) × (before ≡ first ++ Took p taken ∷ since) }
 {}
 
-/// In a safe World a trace shows what its session has in hand: of each partition the content as it took it, and
-/// nothing where the partition is at home or in another's hand.
+/// In a safe World a trace shows what its session has in hand: of each partition the content as it took it,
+/// and nothing where the partition is at home or in another's hand.
 pub fn traces_tell_what_is_in_hand()
     ensures { (w : World) → SafeWorld w → (session p : ℕ) →
         taken_by (λ _. None) (w.sessions.trace session) p ≡ taken_in (w.contents.hand p) session }
 {}
 
-/// A listing that loads slots first and takes partitions later misses no hold that lasts throughout. Let a load of a
-/// slot not show a hold which is then in that slot or in a content, and let it be in a slot or in a content in each
-/// World of a run from then on: the session that takes its object's partition next gets a content that has it. So the
-/// hold is in that content all the way, and each session that takes a partition takes just the content that is there.
+/// A listing that loads slots first and takes partitions later misses no hold that lasts throughout. Let a
+/// load of a slot not show a hold which is then in that slot or in a content, and let it be in a slot or in a
+/// content in each World of a run from then on: the session that takes its object's partition next gets a
+/// content that has it. So the hold is in that content all the way, and each session that takes a partition
+/// takes just the content that is there.
 pub fn a_listing_misses_no_hold_that_stands()
     ensures misses_none { (w v u : World) (lister session place shown taker : ℕ) (tag : Tag) (mode : Mode)
         (events : List Event) (worlds : List World) → SafeWorld w →
@@ -66,10 +69,10 @@ pub fn a_listing_misses_no_hold_that_stands()
         v.sessions.trace session ≡ w.sessions.trace session ++ Took p (w.contents.now p) ∷ [] }
 {}
 
-/// What an event adds to the trace of its session is true: a load in the trace has the word as it was, a request to a
-/// session to cancel its wait has the wait word before that, and the content that an episode put is the partition's
-/// after it. So of each entry of a trace at the end of a run: a World on the way had in the trace just what is before
-/// the entry, and there, or in the next World, the entry was true.
+/// What an event adds to the trace of its session is true: a load in the trace has the word as it was, a
+/// request to a session to cancel its wait has the wait word before that, and the content that an episode put
+/// is the partition's after it. So of each entry of a trace at the end of a run: a World on the way had in
+/// the trace just what is before the entry, and there, or in the next World, the entry was true.
 pub fn a_trace_tells_what_was_there()
     ensures loaded { (w v : World) (event : Event) (word : Word) (shown : ℕ) → Happens w event v →
         v.sessions.trace event.session ≡ w.sessions.trace event.session ++ Loaded word shown ∷ [] →

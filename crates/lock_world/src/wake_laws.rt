@@ -1,7 +1,7 @@
-//! Why nobody who sleeps for a lightweight lock is forgotten, why no call is lost, and why nobody waits without a
-//! reason. Each function here is a law: its clause is proved, and its body is empty. Most of them speak of every run
-//! whose turns keep to what their sessions have to do for those who wait (`RunKeeps` in specs/Wakes), and, where that
-//! is said, to the order of lightweight locks (`RunKeepsInOrder`).
+//! Why nobody who sleeps for a lightweight lock is forgotten, why no call is lost, and why nobody waits
+//! without a reason. Each function here is a law: its clause is proved, and its body is empty. Most of them
+//! speak of every run whose turns keep to what their sessions have to do for those who wait (`RunKeeps` in
+//! specs/Wakes), and, where that is said, to the order of lightweight locks (`RunKeepsInOrder`).
 
 ghost use Rattle.std.specs.Prelude.{◌≡◌, ◌⊎◌, ℕ, List, true, Some, None};
 ghost use Rattle.modes_core.specs.Tag.{partition_of};
@@ -16,11 +16,12 @@ ghost use Rattle.lock_world.specs.Wakes.Reasons.{HasReason};
 ghost use Rattle.lock_world.specs.Wakes.{Beside, Turn, Keeps, beside_after, RunKeeps, RunKeepsInOrder};
 ghost use Rattle.lock_world.specs.Wakes.{OnlyLiveOwe, IsLookedAfter, NoCallIsLost, SleepAndWakeup};
 
-/// No sleeper is forgotten, between any two turns of a run that keeps to what is owed. Where the wait list of a lightweight
-/// lock has a waiter, somebody has the lock or has something to do for it. A session that sleeps is in the wait list of a lock,
-/// and a session that makes steps has that lock or something to do for it; or the sleeper was taken off, and a session that
-/// makes steps has it to wake. Only sessions that make steps have a lightweight lock, or something to do. One turn that keeps
-/// to what is owed forgets nobody, in a safe World where nobody is forgotten.
+/// No sleeper is forgotten, between any two turns of a run that keeps to what is owed. Where the wait list of
+/// a lightweight lock has a waiter, somebody has the lock or has something to do for it. A session that
+/// sleeps is in the wait list of a lock, and a session that makes steps has that lock or something to do for
+/// it; or the sleeper was taken off, and a session that makes steps has it to wake. Only sessions that make
+/// steps have a lightweight lock, or something to do. One turn that keeps to what is owed forgets nobody, in
+/// a safe World where nobody is forgotten.
 pub fn no_sleeper_is_forgotten()
     ensures each_turn { (w v : World) (b : Beside) (turn : Turn) → SafeWorld w →
         NobodyIsForgotten (waking w b.duties) → Keeps w b turn v →
@@ -33,9 +34,10 @@ pub fn no_sleeper_is_forgotten()
         RunKeeps limit groups turns v d → OnlyLiveOwe v d }
 {}
 
-/// No call is lost, of wait words and of sleep words alike, in a run that keeps to what is owed. A session parks on its
-/// wait word where that shows that it waits, and on its sleep word where that doesn't show that it was told. One that is
-/// parked on what its word no more shows is owed a call, by a session that makes steps and is not parked so itself.
+/// No call is lost, of wait words and of sleep words alike, in a run that keeps to what is owed. A session
+/// parks on its wait word where that shows that it waits, and on its sleep word where that doesn't show that
+/// it was told. One that is parked on what its word no more shows is owed a call, by a session that makes
+/// steps and is not parked so itself.
 pub fn no_call_is_lost()
     ensures waits { (limit groups : ℕ) (turns : List Turn) (v : World) (d : Beside) → RunKeeps limit groups turns v d →
         NoCallIsLost v ShowsWaiting v.words.wait d.waits }
@@ -43,9 +45,10 @@ pub fn no_call_is_lost()
         NoCallIsLost v ShowsUntold v.words.sleep d.sleeps }
 {}
 
-/// No circle of sleepers comes, in a run that takes lightweight locks in their order as well. No session is in the wait list of
-/// a lock while it has a lock that is later in that order. So where anybody sleeps, not all of those sleep who have a
-/// lightweight lock, or something to do for one, or somebody to wake: a chain of waiting ends at a session that runs.
+/// No circle of sleepers comes, in a run that takes lightweight locks in their order as well. No session is
+/// in the wait list of a lock while it has a lock that is later in that order. So where anybody sleeps, not
+/// all of those sleep who have a lightweight lock, or something to do for one, or somebody to wake: a chain
+/// of waiting ends at a session that runs.
 pub fn no_circle_of_sleepers()
     ensures in_order { (limit groups : ℕ) (turns : List Turn) (v : World) (d : Beside) →
         RunKeepsInOrder limit groups turns v d → OrderIsKept (waking v d.duties) }
@@ -53,11 +56,11 @@ pub fn no_circle_of_sleepers()
         RunKeepsInOrder limit groups turns v d → NotAllSleep (waking v d.duties) }
 {}
 
-/// Every session that waits for an object has a reason, in a safe World with the object's partition at home. Another session
-/// holds the object in a mode that conflicts with the one awaited, or a session that waits before it awaits such a mode;
-/// otherwise the wait word of the session that waits shows the grant. In a run that keeps to what is owed a session whose wait
-/// was granted runs, or is owed a call: where it is parked on a word that showed it waiting, a session that makes steps has it
-/// to call.
+/// Every session that waits for an object has a reason, in a safe World with the object's partition at home.
+/// Another session holds the object in a mode that conflicts with the one awaited, or a session that waits
+/// before it awaits such a mode; otherwise the wait word of the session that waits shows the grant. In a run
+/// that keeps to what is owed a session whose wait was granted runs, or is owed a call: where it is parked on
+/// a word that showed it waiting, a session that makes steps has it to call.
 pub fn every_waiter_has_a_reason()
     ensures reason { (w : World) → SafeWorld w → (session : ℕ) (wait : OwnWait) →
         w.sessions.awaited session ≡ Some wait → w.contents.hand (partition_of wait.tag) ≡ None →
@@ -68,8 +71,9 @@ pub fn every_waiter_has_a_reason()
         (other : ℕ) × (d.waits.owed other session ≡ true) × MakesSteps v.numbers other }
 {}
 
-/// What the laws on sleeping and waking ask of a run can be met: there is a run in which a session falls asleep for the lock of
-/// another's slots, and goes on, called by the session that puts that lock, until it has the lock.
+/// What the laws on sleeping and waking ask of a run can be met: there is a run in which a session falls
+/// asleep for the lock of another's slots, and goes on, called by the session that puts that lock, until it
+/// has the lock.
 pub fn a_run_puts_a_session_to_sleep_and_wakes_it()
     ensures { SleepAndWakeup }
 {}

@@ -1,9 +1,10 @@
 //! Acquiring a lightweight lock (`LWLockAcquire` in lwlock.c).
 //!
-//! An uncontended acquire is one attempt. A session that loses it attempts the lock a few times more, with pauses, then
-//! joins the lock's list and attempts the lock again. Where it sees somebody in the way there, it sleeps until it was
-//! taken off the list and told so; then it begins again. The attempt after the queueing is what no wake-up is lost by:
-//! a session that puts the lock from then on sees has-waiters, and one that put it before is no more in the way.
+//! An uncontended acquire is one attempt. A session that loses it attempts the lock a few times more, with
+//! pauses, then joins the lock's list and attempts the lock again. Where it sees somebody in the way there,
+//! it sleeps until it was taken off the list and told so; then it begins again. The attempt after the
+//! queueing is what no wake-up is lost by: a session that puts the lock from then on sees has-waiters, and
+//! one that put it before is no more in the way.
 
 ghost use Rattle.std.specs.Prelude.{IfSome, IfNone};
 ghost use Rattle.lw_lock.specs.Since.{IsSince, StaysSince, TurnsInto, Gains};
@@ -12,8 +13,8 @@ use crate::guarded::{Acquirable, Guarded};
 use crate::pauses::{SPINS, pause_before};
 use std::sync::Wait;
 
-/// Acquires `lock` for the session in `state`, and answers what the lock guards (`LWLockAcquire` in lwlock.c). The session
-/// waits in the lock's wait list while others are in the way.
+/// Acquires `lock` for the session in `state`, and answers what the lock guards (`LWLockAcquire` in
+/// lwlock.c). The session waits in the lock's wait list while others are in the way.
 #[inline]
 pub fn acquire<S, G, L: Acquirable<S, G>, R: Wait>(rt: &R, state: &mut S, lock: &L) -> G
     requires { L.on_way lock.now state.old state.old }
@@ -25,8 +26,8 @@ pub fn acquire<S, G, L: Acquirable<S, G>, R: Wait>(rt: &R, state: &mut S, lock: 
     }
 }
 
-/// Acquires `lock` for the session in `state` after a lost attempt: attempts and sleeps in turns until the lock is won (the
-/// loop of `LWLockAcquire` in lwlock.c).
+/// Acquires `lock` for the session in `state` after a lost attempt: attempts and sleeps in turns until the
+/// lock is won (the loop of `LWLockAcquire` in lwlock.c).
 pub fn acquire_held<S, G, L: Guarded<S, G>, R: Wait>(rt: &R, state: &mut S, lock: &L) -> G
     requires { IsSince (L.on_way lock.now) state.old }
     ensures { Gains (L.on_way lock.now) (L.won lock.now) state.old state.new result }
@@ -66,8 +67,8 @@ fn attempt_a_while<S, G, L: Guarded<S, G>>(state: &mut S, lock: &L) -> Option<G>
     None
 }
 
-// Joins the list and attempts the lock again. A winner leaves the list; who lost sleeps until it is told, and lets
-// releases wake others again before it goes on.
+// Joins the list and attempts the lock again. A winner leaves the list; who lost sleeps until it is told, and
+// lets releases wake others again before it goes on.
 fn acquire_or_sleep<S, G, L: Guarded<S, G>, R: Wait>(rt: &R, state: &mut S, lock: &L) -> Option<G>
     requires { IsSince (L.on_way lock.now) state.old }
     ensures won { IfSome result (Gains (L.on_way lock.now) (L.won lock.now) state.old state.new) }
@@ -86,10 +87,10 @@ fn acquire_or_sleep<S, G, L: Guarded<S, G>, R: Wait>(rt: &R, state: &mut S, lock
     }
 }
 
-// Attempts until it has the lock or sees somebody in the way: an exchange that is lost to a flag that changed says
-// nothing, and nobody may go to sleep on that (the loop of `LWLockAttemptLock` in lwlock.c). Somebody attempts the lock
-// after each such change, so nobody is known to sleep for ever where the attempt is made once; but so a session relies
-// on no step of others.
+// Attempts until it has the lock or sees somebody in the way: an exchange that is lost to a flag that changed
+// says nothing, and nobody may go to sleep on that (the loop of `LWLockAttemptLock` in lwlock.c). Somebody
+// attempts the lock after each such change, so nobody is known to sleep for ever where the attempt is made
+// once; but so a session relies on no step of others.
 fn attempt_unless_held<S, G, L: Guarded<S, G>, R: Wait>(
     rt: &R,
     state: &mut S,

@@ -1,4 +1,5 @@
-//! A lightweight lock (`LWLock` in lwlock.c): how a session acquires it, tries it, and releases it, whatever it guards.
+//! A lightweight lock (`LWLock` in lwlock.c): how a session acquires it, tries it, and releases it, whatever
+//! it guards.
 #![tactic(auto)]
 
 mod acquires;

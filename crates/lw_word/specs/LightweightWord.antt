@@ -1,8 +1,8 @@
 use Rattle.std.specs.Prelude.{◌≡◌, ℕ, ◌+◌, ◌-◌, ◌*◌, ◌/◌, ◌%◌, ◌^◌, ◌<◌, Bool, true, false, not, bit_and, bit_or}
 
--- A lightweight lock's word as a number: bits 0 to 23 count the sessions that hold it shared, bit 24 is set where one
--- holds it exclusively, bit 28 where its wait list is locked, bit 29 is release-ok, and bit 30 is has-waiters
--- (LW_VAL_EXCLUSIVE and the flags in lwlock.c).
+-- A lightweight lock's word as a number: bits 0 to 23 count the sessions that hold it shared, bit 24 is set
+-- where one holds it exclusively, bit 28 where its wait list is locked, bit 29 is release-ok, and bit 30 is
+-- has-waiters (LW_VAL_EXCLUSIVE and the flags in lwlock.c).
 
 -- the number has these bits and no others
 pub record IsLightweightWord (word : ℕ) : Type 0 where
@@ -82,7 +82,8 @@ bit false = 0
 abbrev pub flag_bits : Bool → Bool → ℕ
 flag_bits has_waiters release_ok = bit has_waiters * 2 ^ 30 + bit release_ok * 2 ^ 29
 
--- the bits that stay where a wait list is unlocked: all but the list's own, and each flag only where it is to stay
+-- the bits that stay where a wait list is unlocked: all but the list's own, and each flag only where it is to
+-- stay
 abbrev pub kept_bits : Bool → Bool → ℕ
 kept_bits has_waiters release_ok = 2 ^ 64 - 1 - (2 ^ 28 + flag_bits (not has_waiters) (not release_ok))
 

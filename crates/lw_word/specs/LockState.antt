@@ -49,8 +49,8 @@ abbrev pub amount_of : LwMode → ℕ
 amount_of Exclusive = 2 ^ 24
 amount_of Shared = 1
 
--- The lock may be taken in this mode (LWLockAttemptLock in lwlock.c): exclusively where nobody holds it, shared where nobody
--- holds it exclusively.
+-- The lock may be taken in this mode (LWLockAttemptLock in lwlock.c): exclusively where nobody holds it,
+-- shared where nobody holds it exclusively.
 abbrev pub IsFreeFor : LwMode → LockState → Type 0
 IsFreeFor Exclusive state = (state.exclusive ≡ false) × (state.shared ≡ 0)
 IsFreeFor Shared state = state.exclusive ≡ false
@@ -75,7 +75,7 @@ abbrev pub put_in : LwMode → LockState → LockState
 put_in Exclusive state = record state { exclusive = false }
 put_in Shared state = record state { shared = state.shared - 1 }
 
--- whether the session that made it so by a release has to wake waiters (LWLockReleaseInternal): nobody holds it, and both flags
--- are set
+-- whether the session that made it so by a release has to wake waiters (LWLockReleaseInternal): nobody holds
+-- it, and both flags are set
 abbrev pub must_wake : LockState → Bool
 must_wake state = not state.exclusive && state.shared == 0 && state.has_waiters && state.release_ok

@@ -3,9 +3,9 @@ use Rattle.std.specs.Int.{bit_at}
 use Rattle.modes_core.specs.declared.modes.Mode.{Mode}
 use Rattle.modes_core.specs.Mode.{number_of}
 
--- A fast-path slot's word as a number: the relation in bits 0 to 31, and bits 32, 33 and 34 for the modes 1, 2 and 3
--- (`fpRelId` and `fpLockBits` of a PGPROC, which PostgreSQL keeps apart). A slot with no mode bit is empty, whatever else
--- its word has.
+-- A fast-path slot's word as a number: the relation in bits 0 to 31, and bits 32, 33 and 34 for the modes 1,
+-- 2 and 3 (`fpRelId` and `fpLockBits` of a PGPROC, which PostgreSQL keeps apart). A slot with no mode bit is
+-- empty, whatever else its word has.
 
 -- the relation of a slot in use
 abbrev pub relation_in : ℕ → ℕ

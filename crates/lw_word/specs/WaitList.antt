@@ -45,7 +45,8 @@ without_sharers (suc many) [] = []
 without_sharers (suc many) (first ∷ others) =
     if wants_to_share first then without_sharers many others else first ∷ without_sharers (suc many) others
 
--- whom a wakeup takes off: those who want to share, where the first one does, as many as go at a time; else the first one alone
+-- whom a wakeup takes off: those who want to share, where the first one does, as many as go at a time; else
+-- the first one alone
 abbrev pub taken_off : List LwWaiter → List LwWaiter
 taken_off [] = []
 taken_off (first ∷ others) =

@@ -20,8 +20,8 @@ pub fn a_word_and_what_it_says_are_one()
     ensures valid { (state : LockState) → state.shared < 2 ^ 24 → IsLightweightWord (word_of state) }
 {}
 
-/// The record `LockState` and the bits of a lightweight lock's word say one thing: when the lock is free for a mode, when it is
-/// held, and which flags are set.
+/// The record `LockState` and the bits of a lightweight lock's word say one thing: when the lock is free for
+/// a mode, when it is held, and which flags are set.
 pub fn the_record_says_what_the_bits_say()
     ensures free { (word : ℕ) → IsFreeFor Exclusive (state_of word) ↔ IsHeldByNobody word }
     ensures free_to_share { (word : ℕ) → IsFreeFor Shared (state_of word) ↔ IsFreeToShare word }
@@ -31,7 +31,8 @@ pub fn the_record_says_what_the_bits_say()
     ensures has_waiters { (word : ℕ) → ((state_of word).has_waiters ≡ true) ↔ HasWaiters word }
 {}
 
-/// Taking a free lightweight lock exclusively and putting the lock change only the exclusive bit of the lock's word.
+/// Taking a free lightweight lock exclusively and putting the lock change only the exclusive bit of the
+/// lock's word.
 pub fn taking_turns_one_bit()
     ensures taken { (word : ℕ) → IsHeldByNobody word → IsHeldExclusively (taken_word word) }
     ensures taken_count { (word : ℕ) → IsHeldByNobody word → shared_count (taken_word word) ≡ 0 }
@@ -41,7 +42,8 @@ pub fn taking_turns_one_bit()
     ensures put_flags { (word : ℕ) → IsHeldExclusively word → FlagsStay word (put_word word) }
 {}
 
-/// Sharing a lightweight lock and giving the share back change the count in the lock's word by one, and nothing else.
+/// Sharing a lightweight lock and giving the share back change the count in the lock's word by one, and
+/// nothing else.
 pub fn sharing_counts_alone()
     ensures shared { (word : ℕ) → shared_count word + 1 < 2 ^ 24 →
         shared_count (shared_word word) ≡ shared_count word + 1 }
@@ -63,7 +65,8 @@ pub fn setting_a_flag_sets_it_alone()
     ensures has_waiters_release { (word : ℕ) → has_waiters_word word / 2 ^ 29 % 2 ≡ word / 2 ^ 29 % 2 }
 {}
 
-/// Unlocking a wait list clears the list's bit in the lightweight lock's word and the flags that are not to stay, and leaves the other flags and the holders.
+/// Unlocking a wait list clears the list's bit in the lightweight lock's word and the flags that are not to
+/// stay, and leaves the other flags and the holders.
 pub fn unlocking_clears_what_is_told()
     ensures list { (word : ℕ) (waiters release : Bool) → list_unlocked_word word waiters release / 2 ^ 28 % 2 ≡ 0 }
     ensures holders { (word : ℕ) (waiters release : Bool) → HoldersStay word (list_unlocked_word word waiters release) }
@@ -75,9 +78,9 @@ pub fn unlocking_clears_what_is_told()
     ensures waiters_go { (word : ℕ) (release : Bool) → list_unlocked_word word false release / 2 ^ 30 % 2 ≡ 0 }
 {}
 
-/// A wakeup takes somebody off a lightweight lock's wait list wherever anybody waits, and each waiter that it doesn't take off
-/// remains in the list. Where the first waiter wants to share the lock, and no more than `MOST_TAKEN_OFF` waiters want to, the
-/// wakeup takes off all who want to share.
+/// A wakeup takes somebody off a lightweight lock's wait list wherever anybody waits, and each waiter that it
+/// doesn't take off remains in the list. Where the first waiter wants to share the lock, and no more than
+/// `MOST_TAKEN_OFF` waiters want to, the wakeup takes off all who want to share.
 pub fn a_wakeup_splits_the_list()
     ensures split { (waiters : _) → IsPermutation waiters (taken_off waiters ++ left_waiting waiters) }
     ensures somebody { (waiters : _) → taken_off waiters ≡ [] → waiters ≡ [] }
@@ -89,8 +92,8 @@ pub fn a_wakeup_splits_the_list()
         → left_waiting (first ∷ others) ≡ filter (λ waiter. not (wants_to_share waiter)) (first ∷ others) }
 {}
 
-/// The fast-path slot word of a relation and mode bits has just that relation and those bits; a slot in use shows a mode of its
-/// relation, and a slot that is not in use shows nothing.
+/// The fast-path slot word of a relation and mode bits has just that relation and those bits; a slot in use
+/// shows a mode of its relation, and a slot that is not in use shows nothing.
 pub fn a_slot_shows_one_relation()
     ensures relation { (relation bits : ℕ) → relation < 2 ^ 32 → bits < 2 ^ 3 →
         relation_in (slot_word relation bits) ≡ relation }

@@ -52,8 +52,8 @@ impl SlotWord {
         (self.number & 0xFFFF_FFFF) as u32
     }
 
-    /// Whether the slot shows `mode`, of any relation (`FAST_PATH_CHECK_LOCKMODE` in lock.c). No slot shows a mode
-    /// from `ShareUpdateExclusiveLock` on.
+    /// Whether the slot shows `mode`, of any relation (`FAST_PATH_CHECK_LOCKMODE` in lock.c). No slot shows a
+    /// mode from `ShareUpdateExclusiveLock` on.
     pub fn has(self, mode: Mode) -> bool
         ensures { result ≡ has_mode self mode }
     {
@@ -80,8 +80,8 @@ impl SlotWord {
     }
 
     /// The slot word with `mode` cleared, whether `mode` was set or not (`FAST_PATH_CLEAR_LOCKMODE` in
-    /// `FastPathUnGrantRelationLock` of lock.c). The other modes of the slot stay; the word of a slot that is left with no mode
-    /// is 0.
+    /// `FastPathUnGrantRelationLock` of lock.c). The other modes of the slot stay; the word of a slot that is
+    /// left with no mode is 0.
     pub fn without(self, mode: Mode) -> Self
         requires { number_of mode ≤ 3 }
         ensures number { result ≡ word_without self mode }

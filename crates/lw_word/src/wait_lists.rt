@@ -9,7 +9,8 @@ use modes_core::SessionId;
 use std::alloc::{AllocError, Global};
 use std::marker::Model;
 
-/// A session that waits for a lightweight lock, and how it wants to take the lock (`lwWaitMode` of a `PGPROC` in proc.h).
+/// A session that waits for a lightweight lock, and how it wants to take the lock (`lwWaitMode` of a `PGPROC`
+/// in proc.h).
 #[derive(Clone, Copy, Default, PartialEq, Eq)]
 pub struct LwWaiter {
     /// The session that waits for the lightweight lock.
@@ -18,26 +19,28 @@ pub struct LwWaiter {
     pub mode: LwMode,
 }
 
-/// How many sessions a wakeup takes off a wait list at most. The session that wakes them has them in a list of its own, whose
-/// length is bounded so, however many sessions there are.
+/// How many sessions a wakeup takes off a wait list at most. The session that wakes them has them in a list
+/// of its own, whose length is bounded so, however many sessions there are.
 pub const MOST_TAKEN_OFF: usize = 64;
 
-/// The sessions whom a wakeup took off a wait list, in the order of the list. Each session is in a list once at most.
+/// The sessions whom a wakeup took off a wait list, in the order of the list. Each session is in a list once
+/// at most.
 pub type TakenOff = ArrayVec<LwWaiter, MOST_TAKEN_OFF>;
 
-/// What a wakeup of a lightweight lock's wait list leads to: whom it takes off, and whether release-ok is to be set.
+/// What a wakeup of a lightweight lock's wait list leads to: whom it takes off, and whether release-ok is to
+/// be set.
 #[derive(Drop)]
 pub struct Wakeup {
     /// The sessions to wake, which were taken off the wait list.
     pub taken: TakenOff,
-    /// Whether release-ok is to be set after the wakeup: so where there was nobody to take off. Otherwise a session that was
-    /// taken off sets release-ok as it goes on.
+    /// Whether release-ok is to be set after the wakeup: so where there was nobody to take off. Otherwise a
+    /// session that was taken off sets release-ok as it goes on.
     pub release_ok: bool,
 }
 
-/// The wait list of a lightweight lock, first come first (`waiters` of an `LWLock` in lwlock.h). Contracts see the waiters, and
-/// how many sessions there can be: session numbers are those below that. A session is in the list once at most, and there is
-/// room for all sessions, so that nothing but `new` takes memory.
+/// The wait list of a lightweight lock, first come first (`waiters` of an `LWLock` in lwlock.h). Contracts
+/// see the waiters, and how many sessions there can be: session numbers are those below that. A session is in
+/// the list once at most, and there is room for all sessions, so that nothing but `new` takes memory.
 #[derive(Drop)]
 pub struct WaitList {
     waiters: Vec<LwWaiter>,
@@ -61,8 +64,8 @@ impl WaitList {
     ghost use Rattle.std.specs.Prelude.{◌≡◌, ◌<◌, ◌↔◌, ◌∷◌, ◌++◌, [], false, IsTrue, IfOk};
     ghost use Rattle.lw_word.specs.WaitList.{EachStandsOnce, stands_in, without, taken_off, left_waiting};
 
-    /// A wait list in which nobody waits, with room for the sessions whose numbers are below `sessions`. An error where `alloc`
-    /// has no memory for the list.
+    /// A wait list in which nobody waits, with room for the sessions whose numbers are below `sessions`. An
+    /// error where `alloc` has no memory for the list.
     pub fn new(alloc: Global, sessions: u16) -> Result<Self, AllocError>
         ensures { IfOk result (λ list. list ≡ record { waiters = []; room = sessions }) }
     {
@@ -104,8 +107,8 @@ impl WaitList {
             .any(|waiter| session.number() == waiter.session.number())
     }
 
-    /// Puts `session`, whose number is below `room`, at the end of the list, as a waiter that wants to take the lock in `mode`
-    /// (`LWLockQueueSelf` in lwlock.c).
+    /// Puts `session`, whose number is below `room`, at the end of the list, as a waiter that wants to take
+    /// the lock in `mode` (`LWLockQueueSelf` in lwlock.c).
     pub fn join(&mut self, session: SessionId, mode: LwMode)
         requires within { session < self.old.room }
         requires absent { stands_in session self.old.waiters ≡ false }
@@ -116,7 +119,8 @@ impl WaitList {
         self.waiters.push_reserved(LwWaiter { session, mode });
     }
 
-    /// Takes `session` out of the list, and answers whether `session` was in the list (`LWLockDequeueSelf` in lwlock.c).
+    /// Takes `session` out of the list, and answers whether `session` was in the list (`LWLockDequeueSelf` in
+    /// lwlock.c).
     pub fn leave(&mut self, session: SessionId) -> bool
         ensures found { result ≡ stands_in session self.old.waiters }
         ensures left { self.new ≡ record self.old { waiters = without session self.old.waiters } }
@@ -128,9 +132,9 @@ impl WaitList {
         found
     }
 
-    /// Takes off the list those whom a wakeup lets go (`LWLockWakeup` in lwlock.c): where the first waiter wants to share the
-    /// lock, those who want to share it, `MOST_TAKEN_OFF` of them at most, else the first one alone. The others stay, in their
-    /// order, and go with a later wakeup.
+    /// Takes off the list those whom a wakeup lets go (`LWLockWakeup` in lwlock.c): where the first waiter
+    /// wants to share the lock, those who want to share it, `MOST_TAKEN_OFF` of them at most, else the first
+    /// one alone. The others stay, in their order, and go with a later wakeup.
     pub fn wake_split(&mut self) -> Wakeup
         ensures taken { result.taken.items ≡ taken_off self.old.waiters }
         ensures left { self.new ≡ record self.old { waiters = left_waiting self.old.waiters } }
@@ -157,8 +161,8 @@ impl WaitList {
     }
 }
 
-/// Takes the first `MOST_TAKEN_OFF` of those who want to share the lock out of `waiters`. The others stay, in their
-/// order.
+/// Takes the first `MOST_TAKEN_OFF` of those who want to share the lock out of `waiters`. The others stay, in
+/// their order.
 fn take_sharers_off(waiters: &mut Vec<LwWaiter>) -> TakenOff
     ensures taken { result.items ≡ take MOST_TAKEN_OFF (filter wants_to_share waiters.old.items) }
     ensures left { waiters.new.items ≡ without_sharers MOST_TAKEN_OFF waiters.old.items }

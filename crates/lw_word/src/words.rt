@@ -28,8 +28,8 @@ impl LwMode {
         }
     }
 
-    /// What a holder in this mode adds to the lightweight lock's word (`LW_VAL_EXCLUSIVE` and `LW_VAL_SHARED` in lwlock.c): the
-    /// operand of the fetch-and-subtract that releases the lock.
+    /// What a holder in this mode adds to the lightweight lock's word (`LW_VAL_EXCLUSIVE` and `LW_VAL_SHARED`
+    /// in lwlock.c): the operand of the fetch-and-subtract that releases the lock.
     pub fn amount(self) -> u64
         ensures { result ≡ amount_of self }
     {
@@ -40,12 +40,12 @@ impl LwMode {
     }
 }
 
-/// A lightweight lock's word (`state` of an `LWLock` in lwlock.h), as it is in the shared table: bits 0 to 23 count those who
-/// hold it shared, bit 24 is set where somebody holds it exclusively, bit 28 where its wait list is locked, bit 29 is
-/// release-ok and bit 30 has-waiters. Contracts see what the word says.
+/// A lightweight lock's word (`state` of an `LWLock` in lwlock.h), as it is in the shared table: bits 0 to 23
+/// count those who hold it shared, bit 24 is set where somebody holds it exclusively, bit 28 where its wait
+/// list is locked, bit 29 is release-ok and bit 30 has-waiters. Contracts see what the word says.
 ///
-/// The calls make a new word of an old one and change nothing. The contract of each call says what the call means, and also
-/// what it does to the number, which is what the atomic operation of the shared table does.
+/// The calls make a new word of an old one and change nothing. The contract of each call says what the call
+/// means, and also what it does to the number, which is what the atomic operation of the shared table does.
 #[derive(Clone, Copy)]
 pub struct LwWord {
     number: u64,
@@ -89,7 +89,8 @@ impl LwWord {
         }
     }
 
-    /// The lightweight lock's word whose number is `number`, or `None` where `number` has a bit that no such word has.
+    /// The lightweight lock's word whose number is `number`, or `None` where `number` has a bit that no such
+    /// word has.
     pub fn from_number(number: u64) -> Option<Self>
         ensures valid { IsSome result ↔ IsLightweightWord number }
         ensures value { IfSome result (λ word. word_of word ≡ number) }
@@ -110,8 +111,8 @@ impl LwWord {
         self.number
     }
 
-    /// The word after the lock was taken in `mode`, or `None` where the lock can't be taken in `mode` now (`LWLockAttemptLock`
-    /// in lwlock.c).
+    /// The word after the lock was taken in `mode`, or `None` where the lock can't be taken in `mode` now
+    /// (`LWLockAttemptLock` in lwlock.c).
     pub fn attempt(self, mode: LwMode) -> Option<Self>
         requires { HasRoomFor mode self }
         ensures answer { SomeIff result (IsFreeFor mode self) (taken_in mode self) }
@@ -127,7 +128,8 @@ impl LwWord {
         }
     }
 
-    /// The word after a session that held the lock in `mode` released it (`LWLockReleaseInternal` in lwlock.c).
+    /// The word after a session that held the lock in `mode` released it (`LWLockReleaseInternal` in
+    /// lwlock.c).
     pub fn release(self, mode: LwMode) -> Self
         requires { IsHeldIn mode self }
         ensures after { result ≡ put_in mode self }
@@ -166,7 +168,8 @@ impl LwWord {
         self.number & Self::HAS_WAITERS != 0
     }
 
-    /// The word after its wait list was locked, or `None` where the list is locked already (`LWLockWaitListLock` in lwlock.c).
+    /// The word after its wait list was locked, or `None` where the list is locked already
+    /// (`LWLockWaitListLock` in lwlock.c).
     pub fn lock_list(self) -> Option<Self>
         ensures answer { SomeIff result (self.list_locked ≡ false) (record self { list_locked = true }) }
         ensures number { IfSome result (λ after. word_of after ≡ list_locked_word (word_of self)) }
@@ -180,9 +183,10 @@ impl LwWord {
         }
     }
 
-    /// The word after its wait list was unlocked, with has-waiters set where `has_waiters`, and release-ok where `release_ok`
-    /// (`LWLockWaitListUnlock`, and the end of `LWLockWakeup`, in lwlock.c). In the shared table the flags to be set are set
-    /// first, and then one fetch-and clears the other flags and unlocks the list.
+    /// The word after its wait list was unlocked, with has-waiters set where `has_waiters`, and release-ok
+    /// where `release_ok` (`LWLockWaitListUnlock`, and the end of `LWLockWakeup`, in lwlock.c). In the shared
+    /// table the flags to be set are set first, and then one fetch-and clears the other flags and unlocks the
+    /// list.
     pub fn unlock_list(self, has_waiters: bool, release_ok: bool) -> Self
         ensures after { result
             ≡ record self { list_locked = false; has_waiters = has_waiters; release_ok = release_ok } }
@@ -194,8 +198,8 @@ impl LwWord {
         }
     }
 
-    /// The bits of the flags to be set before a wait list is unlocked: has-waiters where `has_waiters`, release-ok where
-    /// `release_ok`.
+    /// The bits of the flags to be set before a wait list is unlocked: has-waiters where `has_waiters`,
+    /// release-ok where `release_ok`.
     pub fn flag_bits(has_waiters: bool, release_ok: bool) -> u64
         ensures { result ≡ flag_bits has_waiters release_ok }
     {
@@ -204,16 +208,16 @@ impl LwWord {
         waiters | release
     }
 
-    /// The operand of the fetch-and that unlocks a wait list: all bits but the list's own, without has-waiters unless
-    /// `has_waiters`, and without release-ok unless `release_ok`.
+    /// The operand of the fetch-and that unlocks a wait list: all bits but the list's own, without
+    /// has-waiters unless `has_waiters`, and without release-ok unless `release_ok`.
     pub fn kept_bits(has_waiters: bool, release_ok: bool) -> u64
         ensures { result ≡ kept_bits has_waiters release_ok }
     {
         !(Self::LIST_LOCKED | Self::flag_bits(!has_waiters, !release_ok))
     }
 
-    /// The word after release-ok was set, whether it was set or not: a session that was taken off a wait list sets release-ok
-    /// when it goes on (the end of the loop in `LWLockAcquire`).
+    /// The word after release-ok was set, whether it was set or not: a session that was taken off a wait list
+    /// sets release-ok when it goes on (the end of the loop in `LWLockAcquire`).
     pub fn set_release_ok(self) -> Self
         ensures after { result ≡ record self { release_ok = true } }
         ensures number { word_of result ≡ release_ok_word (word_of self) }

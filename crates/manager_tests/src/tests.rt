@@ -68,7 +68,8 @@ enum DeskCase {
     Holds(Limits),
     /// More than two sessions do what this crew does, each in a thread of its own.
     OfCrew(Crew),
-    /// Sessions, as many as a server's manager can have, share one table in this mode, and one of them waits for it alone.
+    /// Sessions, as many as a server's manager can have, share one table in this mode, and one of them waits
+    /// for it alone.
     SharedByAll(Mode),
     /// Hundreds of sessions wait in one queue, and one release lets them go.
     LetsHundredsGo,
@@ -80,8 +81,8 @@ enum DeskCase {
     WokenAsAsked,
     /// This number of connections come and go one after another.
     Lives(u32),
-    /// This number of connections come and go while one session lists and another one takes strong modes, each in a
-    /// thread of its own.
+    /// This number of connections come and go while one session lists and another one takes strong modes,
+    /// each in a thread of its own.
     BusyLives(u32),
 }
 
@@ -116,8 +117,8 @@ fn tell<
     }
 }
 
-/// Makes a manager of `config` and its opener: a server's manager where a usual one can't have as many sessions as
-/// `config` says.
+/// Makes a manager of `config` and its opener: a server's manager where a usual one can't have as many
+/// sessions as `config` says.
 fn make(alloc: Global, config: Config) -> Result<(Manager, Opener), Refusal>
     ensures new { IfOk result (λ made. IsNew made.0 made.1 config) }
 {
@@ -309,8 +310,8 @@ fn a_server_has_a_thousand_sessions(rt: HostRuntime) -> Result<(), Fail> {
     Ok(())
 }
 
-/// The limits of two managers: the most entries that one session may have, and the most that each of 64 sessions may
-/// have.
+/// The limits of two managers: the most entries that one session may have, and the most that each of 64
+/// sessions may have.
 static LIMITS: [Limits; 2] = [
     Limits {
         sessions: 1,

@@ -2,9 +2,10 @@ use Rattle.std.specs.Prelude.{◌≡◌, ◌≢◌, ℕ, ◌+◌, ◌*◌, ◌/�
 use Rattle.place_index.specs.declared.links.Link.{Link}
 use Rattle.place_index.specs.Notes.{no_place}
 
--- How the notes are kept: each place has a link, with the hash that it is noted under, and the noted places are in chains. A
--- chain has the places whose hashes have one start, the highest place first: a list of heads has its first place, and the
--- link of each place the next one. So a chain can be walked along without a list of what is in it.
+-- How the notes are kept: each place has a link, with the hash that it is noted under, and the noted places
+-- are in chains. A chain has the places whose hashes have one start, the highest place first: a list of heads
+-- has its first place, and the link of each place the next one. So a chain can be walked along without a list
+-- of what is in it.
 
 -- what stands for a place where a chain ends
 abbrev pub end_of_chain : ℕ

@@ -1,7 +1,7 @@
 use Rattle.std.specs.Prelude.{◌≡◌, ℕ, ◌+◌, ◌<◌, ◌&&◌, ◌==◌, if◌then◌else◌, Bool, List, count_by, Option, Some, None}
 
--- What an index knows: the notes, each a hash with a place, in the order of the places, and how many places it has room for:
--- each place below that can be noted.
+-- What an index knows: the notes, each a hash with a place, in the order of the places, and how many places
+-- it has room for: each place below that can be noted.
 pub record Notes : Type 0 where
   pub notes : List (ℕ × ℕ)
   pub places : ℕ
@@ -38,7 +38,8 @@ IsNoted index place = (h : ℕ) × (0 < times index h place)
 abbrev pub IsFree : Notes → ℕ → Type 0
 IsFree index place = (h : ℕ) → times index h place ≡ 0
 
--- What a first look for a hash shows: where it finds no place, that no place is noted under the hash, and else a place that is noted.
+-- What a first look for a hash shows: where it finds no place, that no place is noted under the hash, and
+-- else a place that is noted.
 abbrev pub IsFirst : Notes → ℕ → Option ℕ → Type 0
 IsFirst index hash None = (p : ℕ) → times index hash p ≡ 0
 IsFirst index hash (Some p) = IsNoted index p

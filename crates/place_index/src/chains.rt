@@ -4,8 +4,8 @@ ghost use Rattle.place_index.specs.Chains.{end_of_chain, free_link, link_at, is_
 
 use crate::links::{END, Link};
 
-/// The number of the start, one of `starts`, where the chain of `hash` begins: a multiplication spreads the hashes over the
-/// starts in the order of the hashes, so the highest bits of a hash decide.
+/// The number of the start, one of `starts`, where the chain of `hash` begins: a multiplication spreads the
+/// hashes over the starts in the order of the hashes, so the highest bits of a hash decide.
 #[inline(always)]
 pub(crate) fn start_of(starts: usize, hash: u32) -> usize
     requires { starts ≤ 2 ^ 32 }
@@ -15,8 +15,8 @@ pub(crate) fn start_of(starts: usize, hash: u32) -> usize
     ((u64::from(hash) * starts as u64) >> 32) as usize
 }
 
-/// The place noted under `hash` in the chains of `heads` and `links` of which `is_it` says that it is the one looked for, or
-/// `None`.
+/// The place noted under `hash` in the chains of `heads` and `links` of which `is_it` says that it is the one
+/// looked for, or `None`.
 #[inline(always)]
 pub(crate) fn find<F: Fn(u32) -> bool>(
     heads: &[u32],
@@ -80,8 +80,8 @@ pub(crate) fn link_first(heads: &mut [u32], links: &mut [Link], hash: u32, place
     heads[start] = place;
 }
 
-/// Notes `place` under `hash` in `links` at its position after `head`, the first place of its chain in `heads`. Mostly a chain
-/// has one place only, and this is not called.
+/// Notes `place` under `hash` in `links` at its position after `head`, the first place of its chain in
+/// `heads`. Mostly a chain has one place only, and this is not called.
 #[cold]
 #[inline(never)]
 fn link_behind(heads: &[u32], links: &mut [Link], head: u32, hash: u32, place: u32)
@@ -122,7 +122,8 @@ pub(crate) fn unlink(heads: &mut [u32], links: &mut [Link], hash: u32, place: u3
     }
 }
 
-/// Takes the note of `place` under `hash` out of its chain of `heads` and `links`, in which `place` comes first.
+/// Takes the note of `place` under `hash` out of its chain of `heads` and `links`, in which `place` comes
+/// first.
 #[inline(always)]
 pub(crate) fn unlink_first(heads: &mut [u32], links: &mut [Link], hash: u32, place: u32)
     requires linked { IsLinked heads.old links.old }
@@ -139,7 +140,8 @@ pub(crate) fn unlink_first(heads: &mut [u32], links: &mut [Link], hash: u32, pla
     links[place as usize] = Link::free();
 }
 
-/// Takes the note of `place` under `hash` out of `links` where another place comes first in its chain of `heads`.
+/// Takes the note of `place` under `hash` out of `links` where another place comes first in its chain of
+/// `heads`.
 fn unlink_behind(heads: &[u32], links: &mut [Link], hash: u32, place: u32)
     requires linked { IsLinked heads.now links.old }
     requires starts { HasStarts heads.now }

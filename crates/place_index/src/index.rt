@@ -11,15 +11,15 @@ use std::marker::Model;
 /// How many places a new index has room for.
 const FIRST_PLACES: usize = 16;
 
-/// How many starts of chains an index has beside two for each place, so that in a small table too most chains have one place or
-/// none.
+/// How many starts of chains an index has beside two for each place, so that in a small table too most chains
+/// have one place or none.
 const MORE_STARTS: usize = 96;
 
 /// How many places an index has room for at most.
 const MOST_PLACES: usize = 1 << 30;
 
-/// An index of places in somebody else's list: each place is noted under one 32-bit hash or not at all. Contracts see how often
-/// a place is noted under a hash, and how many places the index has room for.
+/// An index of places in somebody else's list: each place is noted under one 32-bit hash or not at all.
+/// Contracts see how often a place is noted under a hash, and how many places the index has room for.
 #[derive(Drop)]
 pub struct PlaceIndex {
     heads: Vec<u32>,
@@ -65,8 +65,8 @@ impl PlaceIndex {
         })
     }
 
-    /// A place noted under `hash` of which `is_it` says that it is the one looked for, or `None`. `is_it` is asked only about
-    /// places that are noted under `hash`.
+    /// A place noted under `hash` of which `is_it` says that it is the one looked for, or `None`. `is_it` is
+    /// asked only about places that are noted under `hash`.
     #[inline(always)]
     pub fn find<F: Fn(u32) -> bool>(&self, hash: u32, is_it: F) -> Option<u32>
         requires { (p : ℕ) → 0 < times self.now hash p → F.pre is_it p }
@@ -76,8 +76,8 @@ impl PlaceIndex {
         find(self.heads.as_slice(), self.links.as_slice(), hash, is_it)
     }
 
-    /// The place that a `find` for `hash` comes to first, which may be noted under another hash, or `None`. A caller that goes
-    /// on with `find` where that place isn't the one looked for has no loop in its own code.
+    /// The place that a `find` for `hash` comes to first, which may be noted under another hash, or `None`. A
+    /// caller that goes on with `find` where that place isn't the one looked for has no loop in its own code.
     #[inline(always)]
     pub fn first(&self, hash: u32) -> Option<u32>
         ensures { IsFirst self.now hash result }
@@ -117,8 +117,8 @@ impl PlaceIndex {
         place < self.links.len() && self.links[place].is_noted()
     }
 
-    /// Makes room for `place`. Only this call and `new` take memory. Refused where memory ran out, or where `place` is 2^30 or
-    /// above; after a refusal the notes are as before.
+    /// Makes room for `place`. Only this call and `new` take memory. Refused where memory ran out, or where
+    /// `place` is 2^30 or above; after a refusal the notes are as before.
     #[inline(always)]
     pub fn reserve(&mut self, place: u32) -> Result<(), AllocError>
         ensures ok { OnOk result (place < self.new.places) }
@@ -136,7 +136,8 @@ impl PlaceIndex {
         }
     }
 
-    /// Makes room for twice as many places as before, or for `place` where that takes more, and puts all notes into new chains.
+    /// Makes room for twice as many places as before, or for `place` where that takes more, and puts all
+    /// notes into new chains.
     #[cold]
     #[inline(never)]
     fn grow(&mut self, place: usize) -> Result<(), AllocError>
@@ -176,8 +177,8 @@ impl PlaceIndex {
         );
     }
 
-    /// Notes `place`, which is higher than all that are noted and has room, under `hash`, with neither a loop nor a
-    /// call.
+    /// Notes `place`, which is higher than all that are noted and has room, under `hash`, with neither a loop
+    /// nor a call.
     #[inline(always)]
     pub fn insert_last(&mut self, hash: u32, place: u32)
         requires room { place < self.old.places }
@@ -209,8 +210,8 @@ impl PlaceIndex {
         self.len -= 1;
     }
 
-    /// Takes away the note of `place`, the last one of all that are noted, with neither a loop nor a call. The index knows the
-    /// hash of `place`.
+    /// Takes away the note of `place`, the last one of all that are noted, with neither a loop nor a call.
+    /// The index knows the hash of `place`.
     #[inline(always)]
     pub fn remove_last(&mut self, place: u32)
         requires noted { IsNoted self.old place }

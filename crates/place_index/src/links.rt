@@ -3,10 +3,12 @@ ghost use Rattle.std.specs.Prelude.{◌≡◌};
 /// What a link has for the next place where a chain ends. It is the number of no place.
 pub(crate) const END: u32 = u32::MAX;
 
-/// What the link of a place that isn't noted has for the next place. Neither this number nor `END` can be noted as a place.
+/// What the link of a place that isn't noted has for the next place. Neither this number nor `END` can be
+/// noted as a place.
 const FREE: u32 = u32::MAX - 1;
 
-/// What an index keeps of a place: the hash that it is noted under and the next place of its chain, or that it isn't noted.
+/// What an index keeps of a place: the hash that it is noted under and the next place of its chain, or that
+/// it isn't noted.
 #[derive(Clone, Copy)]
 pub struct Link {
     hash: u32,

@@ -33,7 +33,8 @@ fn take_counted<T: PartTable, B: Board<T>, R: Wait>(rt: &R, session: &mut OwnSes
     }
 }
 
-/// How it went where two audits answered `counted` and `again`, and a growth of the first one was refused if `refused`.
+/// How it went where two audits answered `counted` and `again`, and a growth of the first one was refused if
+/// `refused`.
 fn told_of(counted: Result<Audit, Refusal>, again: Result<Audit, Refusal>, refused: bool) -> Told {
     let is_right = again == Ok(COUNTED);
     match counted {

@@ -29,11 +29,12 @@ pub enum Case<'a> {
     AtDesk(DeskCase<'a>),
 }
 
-/// Each case but those of sessions, with its name and how many growths its call takes. A manager takes three for each
-/// of 16 partitions, two for each of 32 wait lists (those of a manager of 8 sessions), and five for the lists of
-/// partitions, of slots and of words, and for the table of both. A local table takes one for its slots, two for their
-/// index, and three for the counts of outer levels, a list that grows to 16. A session takes the growths of a local
-/// table and one for a box. The list of an audit's rows grows to four and to eight.
+/// Each case but those of sessions, with its name and how many growths its call takes. A manager takes three
+/// for each of 16 partitions, two for each of 32 wait lists (those of a manager of 8 sessions), and five for
+/// the lists of partitions, of slots and of words, and for the table of both. A local table takes one for its
+/// slots, two for their index, and three for the counts of outer levels, a list that grows to 16. A session
+/// takes the growths of a local table and one for a box. The list of an audit's rows grows to four and to
+/// eight.
 pub static CASES: [(&'static str, Case<'static>, u16); 15] = [
     ("Manager::new", Case::MakesManager, 117),
     ("Opener::session", Case::OpensSession, 7),

@@ -14,8 +14,8 @@ use std::sync::Wait;
 /// How many connections come and go after the first one.
 pub const LIVES: u32 = 1_000_000;
 
-/// Takes locks with `session`, and leaves them to the end of the session: one by a slot, one on an object, and a strong
-/// mode on a table of the session's own. Answers whether all were granted newly.
+/// Takes locks with `session`, and leaves them to the end of the session: one by a slot, one on an object,
+/// and a strong mode on a table of the session's own. Answers whether all were granted newly.
 fn take<T: PartTable, B: Board<T>, R: Wait>(rt: &R, session: &mut OwnSession<T, B>) -> bool
     ensures seat { KeepsSeat B.seat session.old session.new }
 {
@@ -26,8 +26,8 @@ fn take<T: PartTable, B: Board<T>, R: Wait>(rt: &R, session: &mut OwnSession<T, 
     weak == granted && of_object == granted && strong == granted
 }
 
-/// Has `lives` connections come and go at `desk`, one after another, each with a session of `pool`, and answers whether
-/// each got a session and took its locks.
+/// Has `lives` connections come and go at `desk`, one after another, each with a session of `pool`, and
+/// answers whether each got a session and took its locks.
 fn live_often<T: PartTable, B: Board<T>, D: Desk<OwnSession<T, B>>, R: Wait>(
     rt: &R,
     desk: &mut D,
@@ -51,8 +51,8 @@ fn live_often<T: PartTable, B: Board<T>, D: Desk<OwnSession<T, B>>, R: Wait>(
     all
 }
 
-/// Has a connection come and go at `desk`, and then all others with every growth by `alloc` refused. No growth is asked
-/// for.
+/// Has a connection come and go at `desk`, and then all others with every growth by `alloc` refused. No
+/// growth is asked for.
 pub fn tell<T: PartTable, B: Board<T>, D: Desk<OwnSession<T, B>>, R: Wait>(
     rt: &R,
     alloc: Global,

@@ -1,5 +1,5 @@
-//! Looks at a queue, over any board: a session waits for what another one has, which lists the queue, those in the
-//! way, or all waits with those in their way.
+//! Looks at a queue, over any board: a session waits for what another one has, which lists the queue, those
+//! in the way, or all waits with those in their way.
 
 ghost use Rattle.std.specs.Prelude.{◌≡◌};
 ghost use Rattle.lock_manager.specs.Crews.{KeepsSeat, SeatsAre};
@@ -50,8 +50,8 @@ fn rows_of<T: PartTable, B: Board<T>, R: Wait>(
     }
 }
 
-/// Looks with `session` in the way `kind`, for `waiter`, with the growth numbered `growth` refused, and once more after
-/// a refusal. The right answer is one row.
+/// Looks with `session` in the way `kind`, for `waiter`, with the growth numbered `growth` refused, and once
+/// more after a refusal. The right answer is one row.
 fn look_twice<T: PartTable, B: Board<T>, R: Wait>(
     rt: &R,
     alloc: Global,
@@ -72,8 +72,8 @@ fn look_twice<T: PartTable, B: Board<T>, R: Wait>(
     Told::of(refused, answer == Err(Refusal::NoMemory), again)
 }
 
-/// Looks with `first` in the way `kind`, with the growth numbered `growth` refused, while `second` waits for the
-/// object that `first` has.
+/// Looks with `first` in the way `kind`, with the growth numbered `growth` refused, while `second` waits for
+/// the object that `first` has.
 fn look_at_wait<T: PartTable, B: Board<T>, R: Wait>(
     rt: &R,
     alloc: Global,

@@ -1,6 +1,6 @@
-//! Tells what calls do for which memory is refused: each growth of a call in turn, and every growth of sessions
-//! that go on as they did before. `.ci/refused_memory` runs it with an allocator that refuses growths as it is
-//! asked to. Any other one refuses none, and then each call is made once.
+//! Tells what calls do for which memory is refused: each growth of a call in turn, and every growth of
+//! sessions that go on as they did before. `.ci/refused_memory` runs it with an allocator that refuses
+//! growths as it is asked to. Any other one refuses none, and then each call is made once.
 #![tactic(auto)]
 
 mod allocator;
@@ -31,8 +31,8 @@ use trials::TRIALS;
 /// How many growths of a call are tried at most.
 const MOST: u16 = 200;
 
-/// How many growths of `case` were refused, one in each run, until a run had none left to refuse. `None` if a run went
-/// otherwise than it is to.
+/// How many growths of `case` were refused, one in each run, until a run had none left to refuse. `None` if a
+/// run went otherwise than it is to.
 fn refused_in_turn<R: Wait>(rt: &R, alloc: Global, case: Case<'_>) -> Option<u16> {
     for growth in 1..MOST {
         match tell(rt, alloc, case, growth) {
@@ -44,8 +44,8 @@ fn refused_in_turn<R: Wait>(rt: &R, alloc: Global, case: Case<'_>) -> Option<u16
     None
 }
 
-/// Runs `case`, called `name`, with each of its `growths` growths refused in turn. Where the allocator doesn't listen,
-/// as `listens` says, the case runs once, and none is refused.
+/// Runs `case`, called `name`, with each of its `growths` growths refused in turn. Where the allocator
+/// doesn't listen, as `listens` says, the case runs once, and none is refused.
 fn tell_in_turn<R: Wait + Print>(
     rt: &R,
     alloc: Global,
@@ -80,7 +80,8 @@ fn tell_all<R: Wait + Print>(rt: &R, alloc: Global, listens: bool) -> anyhow::Re
     Ok(())
 }
 
-/// Runs all cases by `rt`, and then sessions at work with every growth refused. The error says what went otherwise.
+/// Runs all cases by `rt`, and then sessions at work with every growth refused. The error says what went
+/// otherwise.
 fn main(rt: HostRuntime) -> anyhow::Result<()> {
     let listens = refuse(rt.alloc(), 1);
     was_refused(rt.alloc());

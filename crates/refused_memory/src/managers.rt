@@ -34,8 +34,8 @@ pub fn perform<R: Wait>(rt: &R, alloc: Global, desk_case: DeskCase<'_>, growth: 
     Told::Otherwise
 }
 
-/// Does `desk_case` at `desk`, with the growth numbered `growth` refused. This function alone names the board of the shared
-/// table.
+/// Does `desk_case` at `desk`, with the growth numbered `growth` refused. This function alone names the board
+/// of the shared table.
 fn perform_at<R: Wait>(
     rt: &R,
     alloc: Global,
@@ -63,8 +63,8 @@ pub fn make(alloc: Global, growth: u16) -> Told {
     }
 }
 
-/// Opens a session with the growth numbered `growth` refused. After a refusal the next session that opens has the first
-/// number.
+/// Opens a session with the growth numbered `growth` refused. After a refusal the next session that opens has
+/// the first number.
 pub fn open<R: Wait>(rt: &R, alloc: Global, growth: u16) -> Told {
     let Ok((manager, mut opener)) = Manager::new(alloc, CONFIG) else {
         return Told::Otherwise;

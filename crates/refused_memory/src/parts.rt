@@ -21,8 +21,8 @@ pub enum PartCall {
     Rows,
 }
 
-/// Begins a request of `session` in `part`, which has nothing in it, with the growth numbered `growth` refused, and
-/// gives it up.
+/// Begins a request of `session` in `part`, which has nothing in it, with the growth numbered `growth`
+/// refused, and gives it up.
 fn begin<P: PartTable>(alloc: Global, part: &mut P, session: SessionId, growth: u16) -> Told
     requires blank { IsBlank P.content P.begun part.old }
 {
@@ -46,7 +46,8 @@ fn ask<P: PartTable>(part: &mut P, session: SessionId) -> Result<Decision, Refus
     decide(part, session, &OBJECT, Mode::Exclusive, Kind::Conditional)
 }
 
-/// Decides a request of `session` in `part` with the growth numbered `growth` refused, and once more after a refusal.
+/// Decides a request of `session` in `part` with the growth numbered `growth` refused, and once more after a
+/// refusal.
 fn decide_once<P: PartTable>(alloc: Global, part: &mut P, session: SessionId, growth: u16) -> Told
     requires blank { IsBlank P.content P.begun part.old }
 {
@@ -62,8 +63,8 @@ fn decide_once<P: PartTable>(alloc: Global, part: &mut P, session: SessionId, gr
     }
 }
 
-/// Appends the rows of `part`, which has one hold of `session`, to a list that has four rows already and no room for
-/// more, with the growth numbered `growth` refused.
+/// Appends the rows of `part`, which has one hold of `session`, to a list that has four rows already and no
+/// room for more, with the growth numbered `growth` refused.
 fn rows<P: PartTable>(alloc: Global, part: &mut P, session: SessionId, growth: u16) -> Told
     requires blank { IsBlank P.content P.begun part.old }
 {

@@ -1,4 +1,5 @@
-//! Two sessions that do the same over and over, over any board: once they have done it, nothing grows any more.
+//! Two sessions that do the same over and over, over any board: once they have done it, nothing grows any
+//! more.
 
 ghost use Rattle.std.specs.Prelude.{◌≡◌};
 ghost use Rattle.lock_manager.specs.Crews.{KeepsSeat, SeatsAre};
@@ -27,8 +28,8 @@ enum Task {
     IsRefused,
 }
 
-/// A turn of a round: whether the first session does something, or else the second one, what is done, and with which
-/// lock.
+/// A turn of a round: whether the first session does something, or else the second one, what is done, and
+/// with which lock.
 type Turn = (bool, Task, Hold);
 
 /// The turns of a round, which a wait follows. The first session has a lock all the while.
@@ -47,7 +48,8 @@ static TURNS: [Turn; 17] = [
     (true, Task::GivesBack, (ANOTHER_TABLE, Share)),
     (true, Task::GivesBack, (OBJECT, Exclusive)),
     (true, Task::GivesBack, (TABLE, RowExclusive)),
-    // A strong mode moves the other session's weak one out of its slot, and the next one of both goes by the table.
+    // A strong mode moves the other session's weak one out of its slot, and the next one of both goes by the
+    // table.
     (true, Task::Takes, (TABLE, AccessShare)),
     (false, Task::Takes, (ANOTHER_TABLE, AccessShare)),
     (false, Task::IsRefused, (TABLE, AccessExclusive)),
@@ -153,7 +155,8 @@ fn go_rounds<T: PartTable, B: Board<T>, R: Wait>(
     (second, all)
 }
 
-/// Plays one round with `first` and `second`, and then the others with every growth refused. No growth is asked for.
+/// Plays one round with `first` and `second`, and then the others with every growth refused. No growth is
+/// asked for.
 fn go_on<T: PartTable, B: Board<T>, R: Wait>(
     rt: &R,
     alloc: Global,

@@ -11,9 +11,9 @@ use lock_manager::{Board, Desk, Listing, Mode, OwnSession, Owner, PartTable, Slo
 use std::alloc::Global;
 use std::sync::Wait;
 
-/// What is seen before and after a call: the modes that the asking session has the table in, how many rows a listing
-/// has, what the table's strong lock counter shows, and whether the sessions that have the table in the lock table come
-/// before those that have it in slots.
+/// What is seen before and after a call: the modes that the asking session has the table in, how many rows a
+/// listing has, what the table's strong lock counter shows, and whether the sessions that have the table in
+/// the lock table come before those that have it in slots.
 #[derive(Clone, Copy, PartialEq, Eq)]
 struct Seen {
     held: u16,
@@ -44,8 +44,8 @@ fn up_to_table(rows: &[TableRow]) -> u16 {
     up_to
 }
 
-/// How many rows `listing` has, and whether sessions that have the table in the lock table come before those that have
-/// it in slots.
+/// How many rows `listing` has, and whether sessions that have the table in the lock table come before those
+/// that have it in slots.
 fn look_at(listing: &Listing) -> (usize, bool) {
     let rows = listing.fast.len().saturating_add(listing.table.len());
     let in_table = up_to_table(listing.table.as_slice());
@@ -79,7 +79,8 @@ fn take_own<T: PartTable, B: Board<T>, R: Wait>(rt: &R, session: &mut OwnSession
     }
 }
 
-/// Makes the call of `trial` with `session` and the growth numbered `growth` refused, and once more after a refusal.
+/// Makes the call of `trial` with `session` and the growth numbered `growth` refused, and once more after a
+/// refusal.
 fn ask<T: PartTable, B: Board<T>, R: Wait>(
     rt: &R,
     alloc: Global,
@@ -106,9 +107,9 @@ fn ask<T: PartTable, B: Board<T>, R: Wait>(
     (session, Told::of(true, answer.ran_out(), is_right))
 }
 
-/// Opens at `desk` `waiters` sessions, each of which waits for an object that `session`, the asking one of `trial`, has,
-/// or all for the awaited object of `trial`. Once all of them wait, `session` asks, with the growth numbered `growth`
-/// refused.
+/// Opens at `desk` `waiters` sessions, each of which waits for an object that `session`, the asking one of
+/// `trial`, has, or all for the awaited object of `trial`. Once all of them wait, `session` asks, with the
+/// growth numbered `growth` refused.
 fn with_waiters<T: PartTable, B: Board<T>, D: Desk<OwnSession<T, B>>, R: Wait>(
     rt: &R,
     alloc: Global,
@@ -156,8 +157,8 @@ fn take<T: PartTable, B: Board<T>, R: Wait>(
     }
 }
 
-/// Opens at `desk` the other sessions of `trial` from `place` on, which take what they are to have, and after them the
-/// asking one, which takes its own objects and asks with the growth numbered `growth` refused.
+/// Opens at `desk` the other sessions of `trial` from `place` on, which take what they are to have, and after
+/// them the asking one, which takes its own objects and asks with the growth numbered `growth` refused.
 fn with_others<T: PartTable, B: Board<T>, D: Desk<OwnSession<T, B>>, R: Wait>(
     rt: &R,
     alloc: Global,

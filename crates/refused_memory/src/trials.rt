@@ -18,8 +18,8 @@ pub struct Trial {
     pub others: [Option<Hold>; 3],
     /// How many objects the asking session has, each in a mode that no waiter asks for.
     pub own: u32,
-    /// How many further sessions wait for an object of the asking session, each for a different object, or all for
-    /// `awaited`.
+    /// How many further sessions wait for an object of the asking session, each for a different object, or
+    /// all for `awaited`.
     pub waiters: u32,
     /// The one object that all waiters of the trial wait for. `None` where each waits for a different one.
     pub awaited: Option<Tag>,
@@ -80,8 +80,8 @@ const ONE_OF_MANY: [Option<Hold>; 3] = [Some((MANY, Exclusive)), None, None];
 
 /// The trials that are run with sessions.
 pub static TRIALS: [Trial; 16] = [
-    // Five in a partition that has had nothing yet: a lock record, a holder record, a queue record, a queue, and a name among those
-    // woken.
+    // Five in a partition that has had nothing yet: a lock record, a holder record, a queue record, a queue,
+    // and a name among those woken.
     Trial {
         name: "try_lock, an object",
         others: NOBODY,
@@ -103,8 +103,8 @@ pub static TRIALS: [Trial; 16] = [
         answer: Answer::Granted,
         growths: 9,
     },
-    // Four in the local table, and four in a partition that is full: both lists of its index, lock records, holder
-    // records.
+    // Four in the local table, and four in a partition that is full: both lists of its index, lock records,
+    // holder records.
     Trial {
         name: "try_lock, the seventeenth object of a partition",
         others: NOBODY,
@@ -125,9 +125,9 @@ pub static TRIALS: [Trial; 16] = [
         answer: Answer::Granted,
         growths: 4,
     },
-    // Past the slots of three readers, with as many objects in the same partition: the record that has to grow is
-    // now that of the first reader, now the session's own, now that of the third one, now of the second one. At
-    // last the first one is in the way.
+    // Past the slots of three readers, with as many objects in the same partition: the record that has to
+    // grow is now that of the first reader, now the session's own, now that of the third one, now of the
+    // second one. At last the first one is in the way.
     Trial {
         name: "try_lock, a strong mode, with nothing beside",
         others: READERS,
@@ -199,8 +199,8 @@ pub static TRIALS: [Trial; 16] = [
         answer: Answer::Queued,
         growths: 2,
     },
-    // Five lock records and their holder records, with one for each wait, have room. Four queue records are full, the
-    // fourth one took the spare queue, and the list of those woken has room for four names.
+    // Five lock records and their holder records, with one for each wait, have room. Four queue records are
+    // full, the fourth one took the spare queue, and the list of those woken has room for four names.
     Trial {
         name: "start, queued, with four objects awaited beside",
         others: ONE_OF_MANY,
@@ -211,8 +211,8 @@ pub static TRIALS: [Trial; 16] = [
         answer: Answer::Queued,
         growths: 3,
     },
-    // There is room for the lock record, a holder record and a spare queue. The queue has room for four waits, and the list of
-    // those woken for four names: both grow.
+    // There is room for the lock record, a holder record and a spare queue. The queue has room for four
+    // waits, and the list of those woken for four names: both grow.
     Trial {
         name: "start, queued, behind four for the same object",
         others: ONE_OF_MANY,

@@ -48,7 +48,8 @@ module _ {T : Type 0} (content : T → Content) where
     pub no_other : NoneOr todo.tries lock
     pub same : todo_attempted todo ≡ todo_attempted (todo_at before)
 
-  -- The session got the lock of a session's slots, of this number of groups, in this mode, with what they show.
+  -- The session got the lock of a session's slots, of this number of groups, in this mode, with what they
+  -- show.
   pub record GetsSlots (groups : ℕ) (mode : LwMode) (owner : ℕ) (before after : Seat (Kept T) (View T)) : Type 0 where
     pub shown : SlotsInHand
     pub knows : KnowsSlots groups (number_at before) (account_at content before) owner shown

@@ -36,12 +36,13 @@ counter_loads count shown = joined count (λ index. Loaded (Strong index) (shown
 abbrev pub slot_loads_of : ℕ → ℕ → (ℕ → ℕ) → List TraceEntry
 slot_loads_of owner count word = joined count (λ slot. Loaded (Slot owner slot) (word slot) ∷ [])
 
--- the loads of all slots of all sessions below the limit, each with this number of groups of slots, which show these words
+-- the loads of all slots of all sessions below the limit, each with this number of groups of slots, which
+-- show these words
 abbrev pub all_slot_loads : ℕ → ℕ → (ℕ → ℕ → ℕ) → List TraceEntry
 all_slot_loads limit groups word = joined limit (λ owner. slot_loads_of owner (group_size * groups) (word owner))
 
--- the steps of taking the partitions from this one on, in rising order, and of putting them back as they were, in the opposite order,
--- with these steps between
+-- the steps of taking the partitions from this one on, in rising order, and of putting them back as they
+-- were, in the opposite order, with these steps between
 abbrev pub holding_steps : ℕ → List Content → List TraceEntry → List TraceEntry
 holding_steps partition [] inner = inner
 holding_steps partition (content ∷ contents) inner =
@@ -81,7 +82,8 @@ module _ {T : Type 0} (content : T → Content) where
     pub sum_ : sum ≡ total count (λ index. counted_at index (gathered_in content before.sessions))
     pub few : sum ≤ most_shown * count
 
-  -- The words of the first `count` slots of a session were loaded, and show, with all partitions in hand, what is left to them.
+  -- The words of the first `count` slots of a session were loaded, and show, with all partitions in hand,
+  -- what is left to them.
   pub record SeesSlots (owner count : ℕ) (before after : View T) (sum : ℕ) : Type 0 where
     pub word : ℕ → ℕ
     pub further : IsFurther before after
@@ -94,7 +96,8 @@ module _ {T : Type 0} (content : T → Content) where
         → (slot : ℕ) → slot < count
         → ShowsLeft owner (account_among (gathered_in content before.sessions) owner) contents slot (word slot)
 
-  -- The words of all slots of the sessions below a number were loaded, and show, with all partitions in hand, what is left to them.
+  -- The words of all slots of the sessions below a number were loaded, and show, with all partitions in hand,
+  -- what is left to them.
   pub record SeesAllSlots (groups limit : ℕ) (before after : View T) (sum : ℕ) : Type 0 where
     pub word : ℕ → ℕ → ℕ
     pub further : IsFurther before after
@@ -143,8 +146,8 @@ OwnSoMany [] (many ∷ others) = ⊥
 OwnSoMany (one ∷ rest) [] = ⊥
 OwnSoMany (one ∷ rest) (many ∷ others) = AreSoMany one.account.own many × OwnSoMany rest others
 
--- What was counted: the modes in what the slot loads show, the granted rows of the contents taken together, and what the counter loads
--- show.
+-- What was counted: the modes in what the slot loads show, the granted rows of the contents taken together,
+-- and what the counter loads show.
 pub record CountsTo (limit groups : ℕ) (counters : ℕ → ℕ) (word : ℕ → ℕ → ℕ) (contents : List Content) (audit : Audit) : Type 0 where
   pub fast : audit.fast ≡ shown_in_slots limit groups word
   pub rows : List TableRow
@@ -152,8 +155,8 @@ pub record CountsTo (limit groups : ℕ) (counters : ℕ → ℕ) (word : ℕ �
   pub table : audit.table ≡ count_by (λ (row : TableRow). row.granted) rows
   pub strong : audit.strong ≡ total 1024 counters
 
--- An audit of those gathered, by the trace of the first. Where memory runs out for the rows it counts nothing, and has made the same
--- steps.
+-- An audit of those gathered, by the trace of the first. Where memory runs out for the rows it counts
+-- nothing, and has made the same steps.
 pub record Counts {E : Type 0} (limit groups : ℕ) (before : List TraceEntry) (result : Result Audit E)
     (after : List TraceEntry) : Type 0 where
   pub counters : ℕ → ℕ
@@ -163,14 +166,14 @@ pub record Counts {E : Type 0} (limit groups : ℕ) (before : List TraceEntry) (
   pub trace : after ≡ before ++ audit_steps limit groups counters word contents
   pub counted : IfOk result (CountsTo limit groups counters word contents)
 
--- What was counted adds up: modes in slots and rows to what those gathered own, however that is listed, and counters to what they have
--- counted.
+-- What was counted adds up: modes in slots and rows to what those gathered own, however that is listed, and
+-- counters to what they have counted.
 pub record AddsUp (gathered : List Gathered) (audit : Audit) : Type 0 where
   pub held : (many : List ℕ) → OwnSoMany gathered many → audit.fast + audit.table ≡ sum many
   pub strong : audit.strong ≡ sum_by (λ one. length one.account.fast.counted) gathered
 
--- The opener's seat counts what stands, with all sessions gathered there: the first one makes the steps, none of which is quiet, and all
--- else is as before.
+-- The opener's seat counts what stands, with all sessions gathered there: the first one makes the steps, none
+-- of which is quiet, and all else is as before.
 pub record CountsAll {T : Type 0} (content : T → Content) (old new : OpenerState T) (result : Result Audit NoMemory) : Type 0 where
   pub counts : Counts old.limit old.groups (first_account content old.gathered).trace result (first_account content new.gathered).trace
   pub adds_up : IfOk result (AddsUp (gathered_in content old.gathered))

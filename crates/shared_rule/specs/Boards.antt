@@ -21,8 +21,8 @@ pub record Seated : Type 0 where
   pub groups : ℕ
   pub table : TableId
 
--- What a session has to do yet: the partitions that it has to put, the last one taken first, and those whom it has to
--- wake, once for each time that it came to owe it, the first one first.
+-- What a session has to do yet: the partitions that it has to put, the last one taken first, and those whom
+-- it has to wake, once for each time that it came to owe it, the first one first.
 pub record Stack : Type 0 where
   pub parts : List ℕ
   pub owed : List ℕ
@@ -78,7 +78,8 @@ pub record IsIdle {T : Type 0} (sessions : List (History T)) : Type 0 where
   pub none : lists_told sessions ≡ no_lists
   pub free : first_todo sessions ≡ nothing_to_do
 
--- The session has no wait list in hand, is in none, and has nothing to do for those who wait and nobody to wake.
+-- The session has no wait list in hand, is in none, and has nothing to do for those who wait and nobody to
+-- wake.
 pub record IsFree {T : Type 0} (sessions : List (History T)) : Type 0 where
   pub idle : IsIdle sessions
   pub wakes_nobody : first_owed sessions ≡ []
@@ -93,8 +94,8 @@ abbrev pub StaysLone : {T : Type 0} → View T → View T → Type 0
 StaysLone before after =
     (number : ℕ) → before ≡ lone number (first_marks before.sessions) → after ≡ lone number (first_marks after.sessions)
 
--- What a board keeps between two calls: its seat is that of one session with this number, which is idle, and the contents that are
--- off their shelves are those of the partitions in hand.
+-- What a board keeps between two calls: its seat is that of one session with this number, which is idle, and
+-- the contents that are off their shelves are those of the partitions in hand.
 pub record IsAtRest {T : Type 0} (number : ℕ) (view : View T) (shelves : List (ℕ × Kept T)) : Type 0 where
   pub lone : view ≡ lone number (first_marks view.sessions)
   pub out : shelves ≡ shelves_out (parts_in_hand shelves)

@@ -57,7 +57,8 @@ HasAllInHand a contents =
     (partition : ℕ) → partition < 16 → (mine : InHand) × (a.hand partition ≡ Some mine) × (mine.now ≡ contents partition)
 
 module _ {T : Type 0} where
-  -- The gathered sessions are all that there are: of the numbers given out, `issued` of them, each is at the seat, or has closed.
+  -- The gathered sessions are all that there are: of the numbers given out, `issued` of them, each is at the
+  -- seat, or has closed.
   pub record AreAll (issued : ℕ) (view : View T) : Type 0 where
     pub next : view.next ≡ Some issued
     pub all : length view.sessions + length view.closed ≡ issued
@@ -71,8 +72,9 @@ module _ {T : Type 0} (content : T → Content) where
   abbrev pub gathered_in : List (History T) → List Gathered
   gathered_in sessions = map gathered_as sessions
 
-  -- What the seat knows of a number that is found in a word, where they are all that there are. A slot shows, with all partitions in
-  -- hand, its session's own holds that no content has; a strong lock counter shows what they have counted.
+  -- What the seat knows of a number that is found in a word, where they are all that there are. A slot shows,
+  -- with all partitions in hand, its session's own holds that no content has; a strong lock counter shows
+  -- what they have counted.
   abbrev pub KnowsOfAll : View T → Word → ℕ → Type 0
   KnowsOfAll view (Partition partition) found = Unit {0}
   KnowsOfAll view (Fast owner) found = Unit {0}
@@ -91,8 +93,9 @@ module _ {T : Type 0} (content : T → Content) where
       × ((word : Word) (issued : ℕ) → word_looked_at (mark found) ≡ Some word → AreAll issued before.0
       → KnowsOfAll before.0 word found)
 
-  -- What the seat knows where the gathered sessions are all that there are, each with `groups` groups of slots: who
-  -- they are, and, with all partitions in hand and nobody waiting, where each one's own holds stand.
+  -- What the seat knows where the gathered sessions are all that there are, each with `groups` groups of
+  -- slots: who they are, and, with all partitions in hand and nobody waiting, where each one's own holds
+  -- stand.
   pub record KnowsAll (groups issued : ℕ) (view : View T) : Type 0 where
     pub distinct : AreDistinct issued (gathered_in view.sessions)
     pub stand :

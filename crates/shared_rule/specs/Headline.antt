@@ -28,9 +28,9 @@ use Rattle.shared_rule.specs.Looks.{looks_told, looks_of}
 use Rattle.shared_rule.specs.History.{is_among}
 use Rattle.shared_rule.specs.Ruled.{ContentsAreHome, SeatsAreShown, StandsAtSeat, TurnsAreTold, todo_of}
 
--- The headline of the table: its words, its contents at home and the histories of all sessions show a World in which no
--- two sessions stand with conflicting modes on one object, each hold is in one place, and each strong lock counter is
--- how much is counted at its index.
+-- The headline of the table: its words, its contents at home and the histories of all sessions show a World
+-- in which no two sessions stand with conflicting modes on one object, each hold is in one place, and each
+-- strong lock counter is how much is counted at its index.
 pub record ShowsHeadline {T : Type 0} (content : T → Content) (begun : T → Option Request) (sizes : TableSizes)
     (state : State (Kept T) (View T)) : Type 0 where
   pub world : World
@@ -47,8 +47,8 @@ pub record ShowsHeadline {T : Type 0} (content : T → Content) (begun : T → O
   pub counters :
       (index : ℕ) → world.words.strong index ≡ counter world.numbers.limit world.sessions.counted index
 
--- What each refusal saw: the table shows such a World, to which events have led from the opening one. Whatever a
--- conditional request was refused with was so in a World on the way.
+-- What each refusal saw: the table shows such a World, to which events have led from the opening one.
+-- Whatever a conditional request was refused with was so in a World on the way.
 pub record ShowsRefusals {T : Type 0} (content : T → Content) (begun : T → Option Request) (sizes : TableSizes)
     (state : State (Kept T) (View T)) : Type 0 where
   pub world : World
@@ -60,9 +60,9 @@ pub record ShowsRefusals {T : Type 0} (content : T → Content) (begun : T → O
   pub headline : Headline world
   pub refusals : RefusalsSawWhatTheyName (opening sizes.sessions sizes.groups ∷ run.0) world
 
--- Why each session waits that awaits an object: the table shows such a World, and where the object's partition is at home, another session
--- holds the object in a mode that conflicts with the one awaited, or one that waits before it awaits such a mode. Otherwise the wait word
--- shows the grant.
+-- Why each session waits that awaits an object: the table shows such a World, and where the object's
+-- partition is at home, another session holds the object in a mode that conflicts with the one awaited, or
+-- one that waits before it awaits such a mode. Otherwise the wait word shows the grant.
 pub record ShowsReasons {T : Type 0} (content : T → Content) (begun : T → Option Request) (sizes : TableSizes)
     (state : State (Kept T) (View T)) : Type 0 where
   pub world : World
@@ -73,10 +73,11 @@ pub record ShowsReasons {T : Type 0} (content : T → Content) (begun : T → Op
       (session : ℕ) (wait : OwnWait) → world.sessions.awaited session ≡ Some wait → world.contents.hand (partition_of wait.tag) ≡ None
       → HasReason (world.contents.now (partition_of wait.tag)) session wait ⊎ (wait_state (world.words.wait session) ≡ 2)
 
--- No sleeper is forgotten: the table shows such a World, with what stands beside it as the histories of all sessions tell that have a seat. Where the
--- wait list of a lightweight lock has a waiter, a session has the lock or something to do for it. A session that sleeps stands in its list, and one
--- that makes steps has that lock or something to do for it; or the sleeper was taken off, and one that makes steps has it to tell. A session that
--- makes no step has no lightweight lock, and nothing to do.
+-- No sleeper is forgotten: the table shows such a World, with what stands beside it as the histories of all
+-- sessions tell that have a seat. Where the wait list of a lightweight lock has a waiter, a session has the
+-- lock or something to do for it. A session that sleeps stands in its list, and one that makes steps has that
+-- lock or something to do for it; or the sleeper was taken off, and one that makes steps has it to tell. A
+-- session that makes no step has no lightweight lock, and nothing to do.
 pub record ShowsSleepers {T : Type 0} (content : T → Content) (begun : T → Option Request) (sizes : TableSizes)
     (state : State (Kept T) (View T)) : Type 0 where
   pub world : World
@@ -90,9 +91,10 @@ pub record ShowsSleepers {T : Type 0} (content : T → Content) (begun : T → O
   pub owed : (session lock : ℕ) → IsAsleep (waking world beside.duties) session lock → IsLookedAfter world beside session lock
   pub only_live : OnlyLiveOwe world beside
 
--- No circle of sleepers comes: the table shows such a World, with what stands beside it as the histories of all sessions tell that have
--- a seat. Nobody stands in the list of a lightweight lock while it has a later one. So where anybody sleeps, not all of those sleep who
--- have a lightweight lock, or something to do for one, or somebody to tell.
+-- No circle of sleepers comes: the table shows such a World, with what stands beside it as the histories of
+-- all sessions tell that have a seat. Nobody stands in the list of a lightweight lock while it has a later
+-- one. So where anybody sleeps, not all of those sleep who have a lightweight lock, or something to do for
+-- one, or somebody to tell.
 pub record ShowsNoCircle {T : Type 0} (content : T → Content) (begun : T → Option Request) (sizes : TableSizes)
     (state : State (Kept T) (View T)) : Type 0 where
   pub world : World
@@ -120,10 +122,12 @@ pub record IsOwedBy {T : Type 0} (Has : History T → ℕ → Type 0) (views : L
   pub makes : MakesSteps w.numbers history.number
   pub owes : Has history other
 
--- No call is lost: the table shows such a World, to which turns of all sessions led, events, looks and calls. The turns of each session are those
--- that its history tells, one for each mark and in order. A session parks on its wait word, as it loaded it last by its history, where that shows
--- that it waits, and on its sleep word where that does not show that it was told; a call since then wakes it. For each session that is parked on what
--- its word no more shows there is a session that makes steps and, as its history tells, has that one to wake.
+-- No call is lost: the table shows such a World, to which turns of all sessions led, events, looks and calls.
+-- The turns of each session are those that its history tells, one for each mark and in order. A session parks
+-- on its wait word, as it loaded it last by its history, where that shows that it waits, and on its sleep
+-- word where that does not show that it was told; a call since then wakes it. For each session that is parked
+-- on what its word no more shows there is a session that makes steps and, as its history tells, has that one
+-- to wake.
 pub record ShowsCalls {T : Type 0} (content : T → Content) (begun : T → Option Request) (sizes : TableSizes)
     (state : State (Kept T) (View T)) : Type 0 where
   pub world : World

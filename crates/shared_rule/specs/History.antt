@@ -73,8 +73,8 @@ is_among sessions session = list_any (λ other. other == session) sessions
 abbrev pub sessions_told : List (ℕ × Mode) → List ℕ
 sessions_told woken = map (λ told. told.0) woken
 
--- what marking a session granted makes of the account: the move is made by the first such step, and stands recorded at
--- each further one
+-- what marking a session granted makes of the account: the move is made by the first such step, and stands
+-- recorded at each further one
 abbrev pub account_granting_by : Option Move → Account → ℕ → InHand → ℕ → Move → List ℕ → Content → Account
 account_granting_by None a part mine other done woken now =
     account_marking a part mine now done done (unmarked_but (is_among woken) other)
@@ -85,7 +85,8 @@ account_granting_by (Some made) a part mine other done woken now =
 abbrev pub account_granting : Account → ℕ → InHand → ℕ → Move → List ℕ → Content → Account
 account_granting a part mine other done woken now = account_granting_by mine.recorded a part mine other done woken now
 
--- whether its own wait was granted, as far as the session can tell: it has seen that, or the content in hand has it
+-- whether its own wait was granted, as far as the session can tell: it has seen that, or the content in hand
+-- has it
 abbrev pub is_granted : ℕ → Account → OwnWait → Bool
 is_granted number a wait = a.seen || (in_hand (a.hand (partition_of wait.tag))).now.holds number wait.tag wait.mode
 
@@ -94,7 +95,8 @@ abbrev pub account_cleared : ℕ → Account → Option OwnWait → Account
 account_cleared number a None = a
 account_cleared number a (Some wait) = account_clearing a wait (is_granted number a wait)
 
--- what leaving the queue, by clearing its own wait word, makes of the account of a session with this wait, if it has one
+-- what leaving the queue, by clearing its own wait word, makes of the account of a session with this wait, if
+-- it has one
 abbrev pub account_left : Account → Option OwnWait → Content → List ℕ → Account
 account_left a None now woken = a
 account_left a (Some wait) now woken =

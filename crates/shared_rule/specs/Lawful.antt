@@ -24,8 +24,8 @@ IsGrantingIn partition (Release tag mode) = partition_of tag ≡ partition
 IsGrantingIn partition (Leave tag) = partition_of tag ≡ partition
 IsGrantingIn partition (Adopt owner slot) = ⊥
 
--- The session is one of those whom the move grants: the move is made by the first mark, or stands recorded and the
--- session is unmarked.
+-- The session is one of those whom the move grants: the move is made by the first mark, or stands recorded
+-- and the session is unmarked.
 abbrev pub MayMarkBy : ℕ → ℕ → Account → ℕ → InHand → Move → List Wait → Content → ℕ → Type 0
 MayMarkBy limit number a partition mine done granted content other =
     MayMarkFirstBy limit number a partition mine done granted content other ⊎ MayMarkNextBy a partition mine done other
@@ -37,7 +37,8 @@ pub record PutsRecorded (a : Account) (partition : ℕ) (mine : InHand) (done : 
   pub keeps : done ≡ Keep
   pub same : content ≡ mine.now
 
--- Putting a partition: after a move that is made as it is put, or, with nothing changed since, after the one that stands recorded.
+-- Putting a partition: after a move that is made as it is put, or, with nothing changed since, after the one
+-- that stands recorded.
 abbrev pub MayPutPart : ℕ → ℕ → Account → ℕ → InHand → Move → Content → Type 0
 MayPutPart limit number a partition mine done content =
     MayPutBy limit number a partition mine done content ⊎ PutsRecorded a partition mine done content
@@ -46,8 +47,8 @@ MayPutPart limit number a partition mine done content =
 abbrev pub MayClearBy : ℕ → Account → OwnWait → Type 0
 MayClearBy number a wait = MayClearSeenBy a wait ⊎ ((mine : InHand) × MayClearInHandBy number a wait mine)
 
--- Sleeping on its own wait word, which is no step: the session waits and has no word in hand, and its trace ends with a
--- load of that word, which showed this: neither a grant nor that it was asked to cancel.
+-- Sleeping on its own wait word, which is no step: the session waits and has no word in hand, and its trace
+-- ends with a load of that word, which showed this: neither a grant nor that it was asked to cancel.
 pub record HasJustLooked (number : ℕ) (a : Account) (shown : ℕ) : Type 0 where
   pub wait : OwnWait
   pub waits : a.awaited ≡ Some wait

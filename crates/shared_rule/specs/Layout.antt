@@ -6,9 +6,9 @@ use Rattle.lock_world.specs.SlotHolds.{group_size, most_groups}
 use Rattle.lock_world.specs.World.{WordExists}
 use Rattle.shared_rule.specs.declared.rule.TableSizes.{TableSizes}
 
--- Where each word stands in the table: its index, in words of 8 bytes. First come the partitions, then the strong lock
--- counters, then blocks of words, one for each session, with the slots of its first group. The slots of each further group
--- have as many blocks behind those.
+-- Where each word stands in the table: its index, in words of 8 bytes. First come the partitions, then the
+-- strong lock counters, then blocks of words, one for each session, with the slots of its first group. The
+-- slots of each further group have as many blocks behind those.
 
 -- where the block of this number begins
 abbrev pub block_start : ℕ → ℕ
@@ -51,8 +51,8 @@ IsInTable sizes word = WordExists sizes.groups word × SessionHasWords sizes.ses
 abbrev pub IsGap : TableSizes → ℕ → Type 0
 IsGap sizes index = (word : Word) → IsInTable sizes word → index_of_word sizes.sessions word ≢ index
 
--- Words of one group may share a cache line: each partition's word is a group, all counters together are one, and a
--- session's words are one.
+-- Words of one group may share a cache line: each partition's word is a group, all counters together are one,
+-- and a session's words are one.
 abbrev pub group_of : Word → ℕ
 group_of (Partition p) = p
 group_of (Strong index) = 16
@@ -70,8 +70,8 @@ IsApart index other = (index + 16 ≤ other) ⊎ (other + 16 ≤ index)
 abbrev pub content_shelf_of : ℕ → ℕ
 content_shelf_of partition = 8 * partition
 
--- how many numbers of lightweight locks there are shelves for, where there can be this number of sessions: partitions have the
--- even numbers below 32, and sessions' slots the first odd ones
+-- how many numbers of lightweight locks there are shelves for, where there can be this number of sessions:
+-- partitions have the even numbers below 32, and sessions' slots the first odd ones
 abbrev pub lock_count : ℕ → ℕ
 lock_count sessions = max 32 (2 * sessions)
 

@@ -10,14 +10,16 @@ use Rattle.shared_rule.specs.Quiet.{Quiet}
 use Rattle.shared_rule.specs.Seats.{behind_of}
 use Rattle.shared_rule.specs.Todos.{Todo}
 
--- All else of a view is as it was: the next number, those that have closed, and those behind the first session.
+-- All else of a view is as it was: the next number, those that have closed, and those behind the first
+-- session.
 pub record KeepsOthers {T : Type 0} (before after : View T) : Type 0 where
   pub next : after.next ≡ before.next
   pub closed : after.closed ≡ before.closed
   pub behind : behind_of after.sessions ≡ behind_of before.sessions
 
--- What a call of several steps makes of a seat: it is the same seat, of the same session, whose account is this then, whose quiet
--- steps are these, and which has this to do for those who wait for lightweight locks. It has to wake those whom it had to wake.
+-- What a call of several steps makes of a seat: it is the same seat, of the same session, whose account is
+-- this then, whose quiet steps are these, and which has this to do for those who wait for lightweight locks.
+-- It has to wake those whom it had to wake.
 pub record LedBy {T : Type 0} (content : T → Content) (before after : Seat (Kept T) (View T)) (a : Account)
     (its_quiet : List Quiet) (its_todo : Todo) : Type 0 where
   pub seat : IsSameSeat before after

@@ -8,8 +8,8 @@ use Rattle.shared_rule.specs.declared.history.WordMark.{WordMark}
 use Rattle.shared_rule.specs.declared.history.WordMark.TheVariants.{LoadedWait, ClearedWait, LoadedSleep, JoinedList, LeftList}
 use Rattle.shared_rule.specs.declared.history.WordMark.TheVariants.{Asked, LoadedDatabase, LoadedSlot, LoadedStrong}
 
--- What a session's own words showed as the session loaded them last, where it has stored nothing there since: on that it parks. Its
--- history tells.
+-- What a session's own words showed as the session loaded them last, where it has stored nothing there since:
+-- on that it parks. Its history tells.
 pub record OwnLooks : Type 0 where
   pub on_wait : Option ℕ
   pub on_sleep : Option ℕ
@@ -44,7 +44,8 @@ module _ {T : Type 0} where
 abbrev pub looks_of : Beside → ℕ → OwnLooks
 looks_of beside number = record { on_wait = beside.waits.looked number; on_sleep = beside.sleeps.looked number }
 
--- the word of which a step tells what it showed, where that may be another session's or all sessions': by a step that tells of no content
+-- the word of which a step tells what it showed, where that may be another session's or all sessions': by a
+-- step that tells of no content
 abbrev pub word_looked_at_by : WordMark → Option Word
 word_looked_at_by (Asked other before) = Some (Wait other)
 word_looked_at_by (LoadedDatabase owner shown) = Some (Database owner)

@@ -17,16 +17,18 @@ abbrev pub lock_number : LwLock → ℕ
 lock_number (OfPart partition) = partition_lock partition
 lock_number (OfSlots owner) = fast_lock owner
 
--- There is this lock where there can be this number of sessions: it has its word and its shelf in their table.
+-- There is this lock where there can be this number of sessions: it has its word and its shelf in their
+-- table.
 abbrev pub LockExists : ℕ → LwLock → Type 0
 LockExists limit (OfPart partition) = partition < 16
 LockExists limit (OfSlots owner) = owner < limit
 
--- What a session knows of wait lists between two calls: it has none in hand, stands in none, and owes nobody that it
--- was taken off one.
+-- What a session knows of wait lists between two calls: it has none in hand, stands in none, and owes nobody
+-- that it was taken off one.
 abbrev pub no_lists : ListAccount
 no_lists = record { in_hand = None; stands = None; off = λ _. Rattle.std.specs.Prelude.false }
 
--- What a session knows of wait lists while it waits for a lock, in whose list it stands unless somebody has taken it off.
+-- What a session knows of wait lists while it waits for a lock, in whose list it stands unless somebody has
+-- taken it off.
 abbrev pub queued_for : ℕ → ListAccount
 queued_for lock = record { in_hand = None; stands = Some lock; off = λ _. Rattle.std.specs.Prelude.false }

@@ -15,7 +15,8 @@ module _ {T : Type 0} where
   abbrev pub TookPart : ℕ → T → Mark T
   TookPart part taken = mark.TookPart part taken
 
-  -- the partition was put home with this content, after this move, and the word of its lock showed this before
+  -- the partition was put home with this content, after this move, and the word of its lock showed this
+  -- before
   abbrev pub PutPart : ℕ → Move → T → ℕ → Mark T
   PutPart part done put found = mark.PutPart part done put found
 
@@ -35,7 +36,8 @@ module _ {T : Type 0} where
   abbrev pub UnsharedFast : ℕ → ℕ → Mark T
   UnsharedFast owner found = mark.OfWords (word.UnsharedFast owner found)
 
-  -- the lock of this session's slots was put, and the strong lock is past that session; the lock's word showed this before
+  -- the lock of this session's slots was put, and the strong lock is past that session; the lock's word
+  -- showed this before
   abbrev pub Passed : ℕ → Tag → Mode → ℕ → Mark T
   Passed owner tag mode found = mark.OfWords (word.Passed owner tag mode found)
 
@@ -51,7 +53,8 @@ module _ {T : Type 0} where
   abbrev pub SetWaiting : Tag → Mode → T → Mark T
   SetWaiting tag mode now = mark.SetWaiting tag mode now
 
-  -- the wait of the other session was marked granted, by this move, which granted these sessions, with this content in hand after it
+  -- the wait of the other session was marked granted, by this move, which granted these sessions, with this
+  -- content in hand after it
   abbrev pub MarkedGranted : ℕ → ℕ → Move → List ℕ → T → Mark T
   MarkedGranted part other done woken now = mark.MarkedGranted part other done woken now
 
@@ -67,7 +70,8 @@ module _ {T : Type 0} where
   abbrev pub ClearedWait : Mark T
   ClearedWait = mark.OfWords word.ClearedWait
 
-  -- the session's own wait word was cleared and its wait left the queue, by which these sessions were granted, with this content in hand
+  -- the session's own wait word was cleared and its wait left the queue, by which these sessions were
+  -- granted, with this content in hand
   abbrev pub LeftQueue : List ℕ → T → Mark T
   LeftQueue woken now = mark.LeftQueue woken now
 

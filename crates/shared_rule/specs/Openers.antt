@@ -14,17 +14,17 @@ abbrev pub trace_told : {T : Type 0} → (T → Content) → History T → List 
 trace_told content history = (told content history.number history.marks).trace
 
 module _ {T : Type 0} where
-  -- The sessions of these histories have closed, where `issued` numbers were given out: each is there once, its number
-  -- was given out, and they are no more than were.
+  -- The sessions of these histories have closed, where `issued` numbers were given out: each is there once,
+  -- its number was given out, and they are no more than were.
   pub record HaveClosed (issued : ℕ) (closed : List (History T)) : Type 0 where
     pub once : (number : ℕ) → count_by (λ history. history.number == number) closed ≤ 1
     pub given_out :
         (place : ℕ) (history : History T) → slice_get closed place ≡ Some history → history.number < issued
     pub no_more : length closed ≤ issued
 
--- The opener as contracts see it: at which table, how many numbers it has given out, how many there can be, how many groups of
--- slots each session has, the histories of the sessions that have closed, the last one first, and who is gathered at its
--- seat, the first one first.
+-- The opener as contracts see it: at which table, how many numbers it has given out, how many there can be,
+-- how many groups of slots each session has, the histories of the sessions that have closed, the last one
+-- first, and who is gathered at its seat, the first one first.
 pub record OpenerState (T : Type 0) : Type 0 where
   pub table : TableId
   pub issued : ℕ
@@ -41,7 +41,8 @@ pub record HasTakenBack {T : Type 0} (content : T → Content) (number : ℕ) (t
   pub trace_ : trace_told content last ≡ trace
   pub opener : new ≡ record old { closed = last ∷ old.closed }
 
--- The opener has gathered a session of this number, with this account and these quiet steps, after those that came before.
+-- The opener has gathered a session of this number, with this account and these quiet steps, after those that
+-- came before.
 pub record HasGathered {T : Type 0} (content : T → Content) (number : ℕ) (account : Account) (quiet : List Quiet)
     (old new : OpenerState T) : Type 0 where
   pub last : History T

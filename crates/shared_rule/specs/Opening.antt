@@ -24,8 +24,8 @@ module _ {T : Type 0} (content : T → Content) (begun : T → Option Request) w
     pub is_there : there ≡ Some (kept.Part part)
     pub blank : IsBlank content begun part
 
-  -- Where there can be this number of sessions, each partition's part is on its shelf, with nothing in it, and each lock's wait list on its
-  -- own, with nobody in it and with room for all of them.
+  -- Where there can be this number of sessions, each partition's part is on its shelf, with nothing in it,
+  -- and each lock's wait list on its own, with nobody in it and with room for all of them.
   pub record AreNew (sessions : ℕ) (shelves : List (Kept T)) : Type 0 where
     pub many : length shelves ≡ shelves_of sessions
     pub new : (p : ℕ) → p < 16 → IsNew (slice_get shelves (content_shelf_of p))

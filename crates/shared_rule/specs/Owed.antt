@@ -6,8 +6,8 @@ use Rattle.shared_rule.specs.declared.history.WordMark.{WordMark}
 use Rattle.shared_rule.specs.declared.history.WordMark.TheVariants.{Asked, CalledWaiter}
 use Rattle.shared_rule.specs.declared.history.History.{History}
 
--- Whom a session has to wake, of those who wait for a lock of the table: each as often as it came to owe it, the first one first. Its
--- history tells.
+-- Whom a session has to wake, of those who wait for a lock of the table: each as often as it came to owe it,
+-- the first one first. Its history tells.
 
 -- one more
 abbrev pub owing : List ℕ → ℕ → List ℕ

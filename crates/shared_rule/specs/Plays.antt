@@ -30,7 +30,8 @@ use Rattle.shared_rule.specs.Looks.{word_looked_at}
 use Rattle.shared_rule.specs.Waiters.{WaitersExist, WaitsExist}
 use Rattle.shared_rule.specs.Slots.{KnowsWord}
 
--- What each step tells. A session's side of a step: its view, and the contents that it has in hand, each with its shelf.
+-- What each step tells. A session's side of a step: its view, and the contents that it has in hand, each with
+-- its shelf.
 
 abbrev pub Side : Type 0 → Type 0
 Side T = Me (Kept T) (View T)
@@ -52,11 +53,13 @@ module _ {T : Type 0} where
   abbrev pub todo_at : Seat (Kept T) (View T) → Todo
   todo_at seat = first_todo seat.me.0.sessions
 
-  -- whether the session that makes its steps with the seat has set has-waiters in the word of the list that it locked last
+  -- whether the session that makes its steps with the seat has set has-waiters in the word of the list that
+  -- it locked last
   abbrev pub flagged_at : Seat (Kept T) (View T) → Bool
   flagged_at seat = first_flagged seat.me.0.sessions
 
-  -- whom the session that makes its steps with the seat has to wake, of those who wait for a lock of the table
+  -- whom the session that makes its steps with the seat has to wake, of those who wait for a lock of the
+  -- table
   abbrev pub owed_at : Seat (Kept T) (View T) → List ℕ
   owed_at seat = first_owed seat.me.0.sessions
 
@@ -85,16 +88,16 @@ module _ {T : Type 0} where
   WentHome mark step before found after = after ≡ (noting before.0 (mark found), rest before.1)
 
 module _ {T : Type 0} (content : T → Content) where
-  -- The step of the seat's session was noted, and of the number found the session learns what its account knows of the word that the
-  -- mark names.
+  -- The step of the seat's session was noted, and of the number found the session learns what its account
+  -- knows of the word that the mark names.
   abbrev pub Looked : (ℕ → Mark T) → Step (Kept T) → Side T → ℕ → Side T → Type 0
   Looked mark step before found after =
       Marked mark step before found after
       × ((word : Word) → word_looked_at (mark found) ≡ Some word
       → KnowsWord (first_number before.0.sessions) (first_account content before.0.sessions) word found)
 
-  -- What the slots of a session show, of this number of groups, was noted by this mark as the lock of them came into
-  -- hand or is shared, and the session knows of it what its account tells.
+  -- What the slots of a session show, of this number of groups, was noted by this mark as the lock of them
+  -- came into hand or is shared, and the session knows of it what its account tells.
   pub record SeesSlots (groups : ℕ) (mark : ℕ → ℕ → List ℕ → Mark T) (owner : ℕ) (before after : Side T) : Type 0 where
     pub database : ℕ
     pub words : List ℕ
@@ -111,7 +114,8 @@ module _ {T : Type 0} (content : T → Content) where
   abbrev pub SharedSlots : ℕ → ℕ → Side T → Side T → Type 0
   SharedSlots groups = SeesSlots groups SharedFast
 
-  -- An exchange takes or shares the lock of a session's slots where it finds the number that it expects, and else leaves the view so.
+  -- An exchange takes or shares the lock of a session's slots where it finds the number that it expects, and
+  -- else leaves the view so.
   abbrev pub SeesSlotsOr :
       ℕ → (ℕ → ℕ → List ℕ → Mark T) → (ℕ → View T → View T) → Step (Kept T) → Side T → ℕ → Side T → Type 0
   SeesSlotsOr groups mark lost step before found after =
@@ -119,17 +123,20 @@ module _ {T : Type 0} (content : T → Content) where
       → SeesSlots groups mark owner before after)
       × (found ≢ step.first → after ≡ (lost found before.0, before.1))
 
-  -- An exchange takes the lock of a session's slots where it finds the number that it expects, and else leaves the view so.
+  -- An exchange takes the lock of a session's slots where it finds the number that it expects, and else
+  -- leaves the view so.
   abbrev pub TookSlotsOr : ℕ → (ℕ → View T → View T) → Step (Kept T) → Side T → ℕ → Side T → Type 0
   TookSlotsOr groups = SeesSlotsOr groups TookFast
 
-  -- An exchange shares the lock of a session's slots where it finds the number that it expects, and else leaves the view so.
+  -- An exchange shares the lock of a session's slots where it finds the number that it expects, and else
+  -- leaves the view so.
   abbrev pub SharedSlotsOr : ℕ → (ℕ → View T → View T) → Step (Kept T) → Side T → ℕ → Side T → Type 0
   SharedSlotsOr groups = SeesSlotsOr groups SharedFast
 
 module _ {T : Type 0} (content : T → Content) where
-  -- The wait list of a lightweight lock came in hand, and those who stand there were noted. The session is among them
-  -- only if its account has that it stands in the list of this lock, there is room for this number of sessions, and all who stand there have numbers below it.
+  -- The wait list of a lightweight lock came in hand, and those who stand there were noted. The session is
+  -- among them only if its account has that it stands in the list of this lock, there is room for this number
+  -- of sessions, and all who stand there have numbers below it.
   pub record TookList (sessions : ℕ) (lock : LwLock) (before after : Side T) : Type 0 where
     pub list : Box Waiting
     pub side :
@@ -144,7 +151,8 @@ module _ {T : Type 0} (content : T → Content) where
     pub room : list.value.room ≡ sessions
     pub exist : WaitersExist sessions list.value.waiters
 
-  -- A fetch-or of its bit takes the list where it finds that bit not set, and else only sees that another has it.
+  -- A fetch-or of its bit takes the list where it finds that bit not set, and else only sees that another has
+  -- it.
   abbrev pub LockedListOr : ℕ → Step (Kept T) → Side T → ℕ → Side T → Type 0
   LockedListOr sessions step before found after =
       (found / 2 ^ 28 % 2 ≡ 0 → (lock : LwLock) → LockExists sessions lock
@@ -171,8 +179,8 @@ module _ {T : Type 0} where
   noted_load found view = noting view (LoadedFast found)
 
 module _ {T : Type 0} (content : T → Content) (begun : T → Option Request) where
-  -- A partition came into hand with its content, of which the session knows what its account tells, in which no request is
-  -- begun, and in which only sessions with numbers below this one wait.
+  -- A partition came into hand with its content, of which the session knows what its account tells, in which
+  -- no request is begun, and in which only sessions with numbers below this one wait.
   pub record TookContent (sessions p : ℕ) (before after : Side T) : Type 0 where
     pub part : T
     pub side : after ≡ (noting before.0 (TookPart p part), (content_shelf_of p, Part part) ∷ before.1)
@@ -180,7 +188,8 @@ module _ {T : Type 0} (content : T → Content) (begun : T → Option Request) w
     pub knows : KnowsContent (first_number before.0.sessions) (first_account content before.0.sessions) p (content part)
     pub waiters : WaitsExist sessions (content part)
 
-  -- An exchange takes a partition in hand where it finds the number that it expects, and else changes nothing.
+  -- An exchange takes a partition in hand where it finds the number that it expects, and else changes
+  -- nothing.
   abbrev pub TookPartition : ℕ → Step (Kept T) → Side T → ℕ → Side T → Type 0
   TookPartition sessions step before found after =
       (found ≡ step.first → (p : ℕ) → p < 16 → step.word ≡ index_of_word sessions (Partition p)

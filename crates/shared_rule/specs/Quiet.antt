@@ -12,8 +12,9 @@ use Rattle.shared_rule.specs.declared.history.Mark.TheVariants.{OfWords}
 use Rattle.shared_rule.specs.declared.history.WordMark.{WordMark}
 use Rattle.shared_rule.specs.declared.history.WordMark.TheVariants.{TookFast, SharedFast, Counted, SetSlot}
 
--- Steps that leave no trace, and that a later step of the session undoes: nothing in its account says then how many there were. They
--- are listed by themselves, the last one first. What undoes them isn't: what is left of them the account has.
+-- Steps that leave no trace, and that a later step of the session undoes: nothing in its account says then
+-- how many there were. They are listed by themselves, the last one first. What undoes them isn't: what is
+-- left of them the account has.
 pub data Quiet : Type 0 where
   -- it took the lock of this session's slots, or shared it
   TakesSlots : (owner : ℕ) → Quiet

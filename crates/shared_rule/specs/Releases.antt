@@ -37,8 +37,9 @@ module _ {T : Type 0} (content : T → Content) (sizes : TableSizes) (table : Ta
     pub idle : (account_at content seat).lists ≡ no_lists
     pub todo : todo_at seat ≡ nothing_to_do
 
-  -- The session has put the lock, which it had in this mode, and whose word showed a number then. Since then its account is `a`, and `shelves` are those of
-  -- what it has in hand. All that it may have to do is to look at the lock's list.
+  -- The session has put the lock, which it had in this mode, and whose word showed a number then. Since then
+  -- its account is `a`, and `shelves` are those of what it has in hand. All that it may have to do is to look
+  -- at the lock's list.
   pub record HasPut (mode : LwMode) (before after : Seat (Kept T) (View T)) (a : Account) (shelves : List (ℕ × Kept T)) : Type 0 where
     pub found : ℕ
     pub led : LedTo content before after a (todo_putting (todo_at before) (lock_number lock) (put_in mode (state_of found)))

@@ -32,8 +32,8 @@ use Rattle.lock_world.specs.Wakes.Owing.{Duties}
 use Rattle.shared_rule.specs.Owed.{owed_told}
 use Rattle.modes_core.specs.Sessions.{most_sessions}
 
--- The rule of the table: there is a World which its words, its contents at home and the histories of all sessions show,
--- to which a list of events leads from the World before the first step, and which is safe.
+-- The rule of the table: there is a World which its words, its contents at home and the histories of all
+-- sessions show, to which a list of events leads from the World before the first step, and which is safe.
 
 -- A session has the slots of this number of groups: each slot beyond them shows 0.
 abbrev pub NoneBeyondSlots : ℕ → Words → Type 0
@@ -63,14 +63,16 @@ abbrev pub IsInNoHand : ℕ → (ℕ → Option ℕ) → Type 0
 IsInNoHand lock has_list = (session : ℕ) → has_list session ≢ Some lock
 
 module _ {T : Type 0} where
-  -- Where nobody has it in hand, the list of a lock is at home, with those who wait for it and with room for this number of sessions.
+  -- Where nobody has it in hand, the list of a lock is at home, with those who wait for it and with room for
+  -- this number of sessions.
   pub record ListIsAtHome (sessions : ℕ) (waiters : List LwWaiter) (there : maybe.Option (maybe.Option (Kept T))) : Type 0 where
     pub list : Box Waiting
     pub at_home : there ≡ some (some (kept.List list))
     pub is_list : list.value.waiters ≡ waiters
     pub has_room : list.value.room ≡ sessions
 
-  -- Where nobody has it in hand, the list of each lock is at home, with those who wait for it and with room for this number of sessions.
+  -- Where nobody has it in hand, the list of each lock is at home, with those who wait for it and with room
+  -- for this number of sessions.
   abbrev pub ListsAreHome : ℕ → List (maybe.Option (Kept T)) → (ℕ → Option ℕ) → (ℕ → List LwWaiter) → Type 0
   ListsAreHome sessions homes has_list list =
       (lock : ℕ) → lock < lock_count sessions → IsInNoHand lock has_list
@@ -81,12 +83,14 @@ abbrev pub IsClosed : Numbers → ℕ → Type 0
 IsClosed numbers number = (number < numbers.issued) × (numbers.live number ≡ false)
 
 module _ {T : Type 0} where
-  -- Each closed session has one history among these, and with those that are live they are all that were given out.
+  -- Each closed session has one history among these, and with those that are live they are all that were
+  -- given out.
   pub record ClosedAreCounted (numbers : Numbers) (closed : List (History T)) : Type 0 where
     pub once : (number : ℕ) → count_by (λ history. history.number == number) closed ≤ 1
     pub all : how_many numbers.issued numbers.live + length closed ≡ numbers.issued
 
-  -- The closed sessions are counted so among those that the opener's view has as closed, the one view that knows the next number.
+  -- The closed sessions are counted so among those that the opener's view has as closed, the one view that
+  -- knows the next number.
   abbrev pub OpenerHasClosed : List (View T) → Numbers → Type 0
   OpenerHasClosed views numbers =
       (seat : ℕ) (view : View T) (number : ℕ) → get_elem? views seat ≡ some view → view.next ≡ Some number
@@ -122,7 +126,8 @@ module _ {T : Type 0} where
     pub number_ : history.number ≡ number
     pub stands : StandsClosed views history
 
-  -- Nobody but the session of this number has made a step, of those that seats are for and those that have closed.
+  -- Nobody but the session of this number has made a step, of those that seats are for and those that have
+  -- closed.
   pub record NobodyElse (views : List (View T)) (number : ℕ) : Type 0 where
     pub at_seat : (history : History T) → StandsAtSeat views history → history.number ≢ number → history.marks ≡ []
     pub closed : (history : History T) → StandsClosed views history → history.number ≢ number → history.marks ≡ []
@@ -134,8 +139,9 @@ module _ {T : Type 0} where
     pub there : get_elem? views seat ≡ some view
     pub next : view.next ≡ Some issued
 
-  -- Of the session of each number, those that seats are for and those that have closed, the steps among the events are those that its history tells,
-  -- and no other; a number not given out has made none. Each live session has its seat, and the opener has its own.
+  -- Of the session of each number, those that seats are for and those that have closed, the steps among the
+  -- events are those that its history tells, and no other; a number not given out has made none. Each live
+  -- session has its seat, and the opener has its own.
   pub record StepsAreTold (views : List (View T)) (numbers : Numbers) (events : List Event) : Type 0 where
     pub opener : HasOpener views numbers.issued
     pub live : (number : ℕ) → numbers.live number ≡ true → HasSeat views number
@@ -149,8 +155,8 @@ module _ {T : Type 0} where
 
 -- What the views of the seats show.
 module _ {T : Type 0} (content : T → Content) where
-  -- What the history of a closed session tells was so as it closed: the events before that lead to a World with just its account, and
-  -- those from then on to the World now.
+  -- What the history of a closed session tells was so as it closed: the events before that lead to a World
+  -- with just its account, and those from then on to the World now.
   pub record HasClosedSo (first now : World) (events : List Event) (history : History T) : Type 0 where
     pub before : List Event
     pub after : List Event
@@ -160,8 +166,8 @@ module _ {T : Type 0} (content : T → Content) where
     pub rest : Leads world (record { session = history.number; step = JoinSeat None } ∷ after) now
     pub account : told content history.number history.marks ≡ account world history.number
 
-  -- A history tells the account of its session, which is live, stands in no other view and not twice in this one, and
-  -- makes steps of its own if it is the first there.
+  -- A history tells the account of its session, which is live, stands in no other view and not twice in this
+  -- one, and makes steps of its own if it is the first there.
   pub record HistoryIsShown (w : World) (seat_of place_in : ℕ → ℕ) (its_seat its_place : ℕ)
       (sessions : List (History T)) (history : History T) : Type 0 where
     pub account : told content history.number history.marks ≡ account w history.number
@@ -180,7 +186,8 @@ module _ {T : Type 0} (content : T → Content) where
     pub whose : history.number ≡ session
     pub behind : place_in joiner < place_in session
 
-  -- The seats show the World's sessions: who is open, who is kept apart by whom, who has closed, and which number comes next.
+  -- The seats show the World's sessions: who is open, who is kept apart by whom, who has closed, and which
+  -- number comes next.
   pub record SeatsAreShown (views : List (View T)) (w : World) : Type 0 where
     -- in which seat's view each session's history stands, and at which place
     pub seat_of : ℕ → ℕ
@@ -204,7 +211,8 @@ module _ {T : Type 0} (content : T → Content) where
     -- a number not yet given out has an account with nothing in it
     pub not_issued : (number : ℕ) → w.numbers.issued ≤ number → account w number ≡ blank_account
 
--- what one session has to do for those who wait for lightweight locks, by the duties of all and by the sessions that it has to call
+-- what one session has to do for those who wait for lightweight locks, by the duties of all and by the
+-- sessions that it has to call
 abbrev pub todo_with : Duties → (ℕ → Bool) → ℕ → Todo
 todo_with duties calls number = record {
   due = duties.due number;
@@ -217,13 +225,14 @@ todo_with duties calls number = record {
 abbrev pub todo_of : Beside → ℕ → Todo
 todo_of beside number = todo_with beside.duties (beside.sleeps.owed number) number
 
--- Each session that waits for a lock of the table and is owed a call by this session is among those whom this one has to wake.
+-- Each session that waits for a lock of the table and is owed a call by this session is among those whom this
+-- one has to wake.
 abbrev pub OwesAsTold : Beside → ℕ → List ℕ → Type 0
 OwesAsTold beside number owed = (other : ℕ) → beside.waits.owed number other ≡ true → is_among owed other ≡ true
 
 module _ {T : Type 0} where
-  -- Each session's turns, events, looks and calls, are those that its history tells, one for each mark and in order, and no other; a
-  -- number not given out has made none.
+  -- Each session's turns, events, looks and calls, are those that its history tells, one for each mark and in
+  -- order, and no other; a number not given out has made none.
   pub record TurnsAreTold (views : List (View T)) (numbers : Numbers) (turns : List Turn) : Type 0 where
     pub at_seat :
         (history : History T) → StandsAtSeat views history
@@ -233,10 +242,11 @@ module _ {T : Type 0} where
         → AreTurnsTold history.number history.marks (turns_of history.number turns)
     pub none : (number : ℕ) → numbers.issued ≤ number → turns_of number turns ≡ []
 
--- No sleeper is forgotten, no call is lost and no circle of sleepers comes: there is a run of turns that leads from the World before the
--- first step to this one, and keeps to what is owed and to the order of lightweight locks. Its events are those of the rule, and each
--- session's turns are those that its history tells. What stands beside the World then is what the histories at the seats tell: what
--- each session has to do for those who wait for lightweight locks, and whom it has to wake.
+-- No sleeper is forgotten, no call is lost and no circle of sleepers comes: there is a run of turns that
+-- leads from the World before the first step to this one, and keeps to what is owed and to the order of
+-- lightweight locks. Its events are those of the rule, and each session's turns are those that its history
+-- tells. What stands beside the World then is what the histories at the seats tell: what each session has to
+-- do for those who wait for lightweight locks, and whom it has to wake.
 pub record WakesAreKept {T : Type 0} (sizes : TableSizes) (views : List (View T)) (events : List Event) (w : World) : Type 0 where
   pub turns : List Turn
   pub beside : Beside
@@ -255,7 +265,8 @@ pub record WakesAreKept {T : Type 0} (sizes : TableSizes) (views : List (View T)
 
 -- The rule, by the content that a keeper stands for and the request that is begun in it.
 module _ {T : Type 0} (content : T → Content) (begun : T → Option Request) where
-  -- What the words of a table of these sizes and its shelves show: these words, contents and wait lists, within the table's bounds.
+  -- What the words of a table of these sizes and its shelves show: these words, contents and wait lists,
+  -- within the table's bounds.
   pub record IsShown (sizes : TableSizes) (table : List ℕ) (homes : List (maybe.Option (Kept T)))
       (words : Words) (contents : Contents) (counted : ℕ → List Counted) (has_list : ℕ → Option ℕ) : Type 0 where
     pub few : sizes.sessions ≤ most_sessions

@@ -13,14 +13,15 @@ use Rattle.shared_rule.specs.History.{lone, first_account}
 use Rattle.shared_rule.specs.Plays.{Side}
 use Rattle.shared_rule.specs.Openers.{HaveClosed}
 
--- Seats that are cut in two and joined: sessions open and close, and meet at one seat, each behind those that came before it.
+-- Seats that are cut in two and joined: sessions open and close, and meet at one seat, each behind those that
+-- came before it.
 
 -- By its account the session holds nothing.
 abbrev pub HoldsNothing : Account → Type 0
 HoldsNothing a = (tag : Tag) (mode : Mode) → a.own tag mode ≡ false
 
--- Closing, by the session's account: nothing is held, awaited or counted, it has no wait list nor stands in one, and nobody whom it
--- took off a list is untold.
+-- Closing, by the session's account: nothing is held, awaited or counted, it has no wait list nor stands in
+-- one, and nobody whom it took off a list is untold.
 pub record MayCloseBy (a : Account) : Type 0 where
   pub no_hold : HoldsNothing a
   pub no_wait : a.awaited ≡ None
@@ -86,7 +87,8 @@ module _ {T : Type 0} where
   abbrev pub newcomer : View T → View T
   newcomer view = lone (number_in view.next) []
 
-  -- the view of the opener's seat once it has taken a session's back, whose number is closed then, with its history
+  -- the view of the opener's seat once it has taken a session's back, whose number is closed then, with its
+  -- history
   abbrev pub with_closed : View T → View T → View T
   with_closed view session = record {
     next = view.next;

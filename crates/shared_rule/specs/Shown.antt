@@ -6,7 +6,8 @@ use Rattle.lock_world.specs.World.{Words, word_in}
 use Rattle.shared_rule.specs.declared.rule.TableSizes.{TableSizes}
 use Rattle.shared_rule.specs.Layout.{words_of, index_of_word, IsInTable, IsGap}
 
--- What the words of a table of these sizes say of a World: each word that the table has shows what it shows in that World.
+-- What the words of a table of these sizes say of a World: each word that the table has shows what it shows
+-- in that World.
 
 pub record WordsAreShown (sizes : TableSizes) (table : List ℕ) (words : Words) : Type 0 where
   pub as_many : length table ≡ words_of sizes.sessions sizes.groups

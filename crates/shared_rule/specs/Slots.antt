@@ -10,8 +10,8 @@ use Rattle.lock_world.specs.Account.{Account, SlotsInHand}
 use Rattle.lock_world.specs.AccountSteps.{account_tracing, account_taking_fast, account_sharing_fast}
 use Rattle.lock_world.specs.AccountFacts.{KnowsSlots}
 
--- What steps on slots tell the session of this number, whose account is `a` before them and `b` after them, where each has this number of groups of
--- slots.
+-- What steps on slots tell the session of this number, whose account is `a` before them and `b` after them,
+-- where each has this number of groups of slots.
 
 -- The session took the lock of the owner's slots, has them in hand, and knows of them what its account tells.
 pub record TakesFast (groups number : ℕ) (a : Account) (owner : ℕ) (b : Account) : Type 0 where
@@ -19,8 +19,8 @@ pub record TakesFast (groups number : ℕ) (a : Account) (owner : ℕ) (b : Acco
   pub knows : KnowsSlots groups number a owner slots
   pub account : b ≡ account_taking_fast number a owner slots
 
--- The session shares the lock of the owner's slots, and knows of them what its account tells: nobody changes them while
--- it does, and others may read them too.
+-- The session shares the lock of the owner's slots, and knows of them what its account tells: nobody changes
+-- them while it does, and others may read them too.
 pub record SharesFast (groups number : ℕ) (a : Account) (owner : ℕ) (b : Account) : Type 0 where
   pub slots : SlotsInHand
   pub knows : KnowsSlots groups number a owner slots
@@ -48,7 +48,8 @@ pub record FoundItChanged (number : ℕ) (a b : Account) : Type 0 where
   pub changed : other ≢ shown
   pub account : b ≡ account_tracing (account_tracing a (Loaded (Fast number) shown)) (Loaded (Fast number) other)
 
--- A session tries for the lock of its own slots: it took the lock, or found it held, or the exchange found another number.
+-- A session tries for the lock of its own slots: it took the lock, or found it held, or the exchange found
+-- another number.
 abbrev pub TriesFast : {T E : Type 0} → ℕ → ℕ → Account → Result T E → Account → Type 0
 TriesFast groups number a result b =
     MatchResult result (λ _. TookItFree groups number a b) (λ _. FoundItHeld number a b ⊎ FoundItChanged number a b)
@@ -57,8 +58,8 @@ TriesFast groups number a result b =
 abbrev pub HasOrShares : Account → ℕ → SlotsInHand → Type 0
 HasOrShares a owner slots = (a.fast.slots owner ≡ Some slots) ⊎ (a.fast.shared_slots owner ≡ Some slots)
 
--- What the session knows of a number that it finds in a word: the slots that it has in hand or shares show it, its
--- database is its own, and its own wait word shows no wait where it has none.
+-- What the session knows of a number that it finds in a word: the slots that it has in hand or shares show
+-- it, its database is its own, and its own wait word shows no wait where it has none.
 abbrev pub KnowsWord : ℕ → Account → Word → ℕ → Type 0
 KnowsWord number a (Partition p) found = Unit {0}
 KnowsWord number a (Fast owner) found = Unit {0}

@@ -67,11 +67,13 @@ WordsTell number (SawHeld lock) its = ⊥
 WordsTell number (CalledWaiter other) its = ⊥
 WordsTell number (CalledSleeper other) its = ⊥
 
--- Putting a partition names the move that was made: the mark's, or, where that is to keep, the one that stood recorded.
+-- Putting a partition names the move that was made: the mark's, or, where that is to keep, the one that stood
+-- recorded.
 abbrev pub Puts : ℕ → Move → Step → Type 0
 Puts part done its = (made : Move) × (its ≡ step.PutExclusive (Partition part) made) × ((made ≡ done) ⊎ (done ≡ Keep))
 
--- The step is one of seats: a number is given out, or closed, or kept apart, or goes on by itself. No mark tells it.
+-- The step is one of seats: a number is given out, or closed, or kept apart, or goes on by itself. No mark
+-- tells it.
 abbrev pub is_of_seats : Step → Bool
 is_of_seats step.SplitSeat = true
 is_of_seats (step.JoinSeat joiner) = true
@@ -102,8 +104,8 @@ module _ {T : Type 0} where
     calls_waiter : (other : ℕ) → mark ≡ OfWords (CalledWaiter other) → LooksOnly mark
     calls_sleeper : (other : ℕ) → mark ≡ OfWords (CalledSleeper other) → LooksOnly mark
 
-  -- These steps are those that the marks tell, the last mark first: the last step is told by the first of them, and the steps before
-  -- it by the others; looks and calls aside.
+  -- These steps are those that the marks tell, the last mark first: the last step is told by the first of
+  -- them, and the steps before it by the others; looks and calls aside.
   abbrev pub AreTold : ℕ → List (Mark T) → List Step → Type 0
   AreTold number [] steps = steps ≡ []
   AreTold number (mark ∷ marks) steps =

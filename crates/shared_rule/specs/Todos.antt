@@ -20,8 +20,8 @@ use Rattle.shared_rule.specs.History.{told, list_here}
 use Rattle.shared_rule.specs.LwLocks.{lock_number, LockExists}
 use Rattle.shared_rule.specs.Lawful.{IsAboveHand}
 
--- What a session has still to do for those who wait for lightweight locks, as its history tells it. `Duties` of the World's wake laws
--- tell the same of all sessions.
+-- What a session has still to do for those who wait for lightweight locks, as its history tells it. `Duties`
+-- of the World's wake laws tell the same of all sessions.
 
 -- By lock numbers.
 pub record Todo : Type 0 where
@@ -79,7 +79,8 @@ todo_told todo lock = record todo { tries = Some lock; owes_release_ok = None }
 abbrev pub is_off_list_in_hand : ℕ → Option ListInHand → ℕ → Bool
 is_off_list_in_hand number in_hand lock = is_lock (lock_of_list in_hand) lock && not (stands_in number (list_here in_hand).waiters)
 
--- Release-ok of this lock was set: a session that owes it was told, and attempts the lock next; or it has the list in hand, and is not in it.
+-- Release-ok of this lock was set: a session that owes it was told, and attempts the lock next; or it has the
+-- list in hand, and is not in it.
 abbrev pub todo_setting_ok : ℕ → ListAccount → Todo → ℕ → Todo
 todo_setting_ok number lists todo lock =
     if is_lock todo.owes_release_ok lock
@@ -89,7 +90,8 @@ todo_setting_ok number lists todo lock =
     else (if is_off_list_in_hand number lists.in_hand lock then todo_leaving todo else todo))
     else todo
 
--- What a step that tells of no content makes of what the session of this number has to do, which knows this of lists.
+-- What a step that tells of no content makes of what the session of this number has to do, which knows this
+-- of lists.
 abbrev pub todo_words : ℕ → ListAccount → Todo → WordMark → Todo
 todo_words number lists todo (TookFast owner database words) = todo_attempted todo
 todo_words number lists todo (SharedFast owner database words) = todo_attempted todo
@@ -107,7 +109,8 @@ todo_words number lists todo (CalledSleeper other) = todo_calling todo other
 todo_words number lists todo (SetReleaseOk lock) = todo_setting_ok number lists todo lock
 todo_words number lists todo mark = todo
 
--- whether the session has set has-waiters in the word of the list that it locked last, after a step that tells of no content
+-- whether the session has set has-waiters in the word of the list that it locked last, after a step that
+-- tells of no content
 abbrev pub flagged_words : Bool → WordMark → Bool
 flagged_words flagged (LockedList lock waiters) = false
 flagged_words flagged (SetHasWaiters lock) = true
@@ -136,7 +139,8 @@ module _ {T : Type 0} where
   todo_told_by number [] = nothing_to_do
   todo_told_by number (mark ∷ marks) = todo_noted number (told no_content number marks).lists (todo_told_by number marks) mark
 
-  -- whether the session has set has-waiters in the word of the list that it locked last, by these steps of its own, the last one first
+  -- whether the session has set has-waiters in the word of the list that it locked last, by these steps of
+  -- its own, the last one first
   abbrev pub flagged_told_by : List (Mark T) → Bool
   flagged_told_by [] = false
   flagged_told_by (mark ∷ marks) = flagged_noted (flagged_told_by marks) mark
@@ -146,7 +150,8 @@ module _ {T : Type 0} where
   first_todo [] = nothing_to_do
   first_todo (history ∷ others) = todo_told_by history.number history.marks
 
-  -- whether the session that makes its steps with the seat has set has-waiters in the word of the list that it locked last
+  -- whether the session that makes its steps with the seat has set has-waiters in the word of the list that
+  -- it locked last
   abbrev pub first_flagged : List (History T) → Bool
   first_flagged [] = false
   first_flagged (history ∷ others) = flagged_told_by history.marks
@@ -179,7 +184,8 @@ HasBy a (OfSlots owner) = (is_some (a.fast.slots owner) ≡ true) ⊎ (is_some (
 abbrev pub TellsNobodyBy : Account → Type 0
 TellsNobodyBy a = (other : ℕ) → a.lists.off other ≡ false
 
--- Why it may unlock a list: nobody waits there, it has taken somebody off, it has the lock, or it attempts the lock next.
+-- Why it may unlock a list: nobody waits there, it has taken somebody off, it has the lock, or it attempts
+-- the lock next.
 pub data IsLeftWellBy (a : Account) (todo : Todo) (lock : LwLock) (waiters : List LwWaiter) : Type 0 where
   nobody_waits : waiters ≡ [] → IsLeftWellBy a todo lock waiters
   took_off : (other : ℕ) → a.lists.off other ≡ true → IsLeftWellBy a todo lock waiters
@@ -200,12 +206,14 @@ pub record HasNoLock (a : Account) : Type 0 where
   pub no_slots : (owner : ℕ) → a.fast.slots owner ≡ None
   pub no_shared_slots : (owner : ℕ) → a.fast.shared_slots owner ≡ None
 
--- By its account the session has earlier lightweight locks alone: partitions below this one, or no lock at all where it is that of a session's slots.
+-- By its account the session has earlier lightweight locks alone: partitions below this one, or no lock at
+-- all where it is that of a session's slots.
 abbrev pub IsLatestBy : Account → LwLock → Type 0
 IsLatestBy a (OfPart part) = IsAboveHand a part
 IsLatestBy a (OfSlots owner) = HasNoLock a
 
--- The list in hand is that of a lock that is later than all lightweight locks which the session has by its account.
+-- The list in hand is that of a lock that is later than all lightweight locks which the session has by its
+-- account.
 pub record JoinsLatest (a : Account) : Type 0 where
   pub sessions : ℕ
   pub lock : LwLock

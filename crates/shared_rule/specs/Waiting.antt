@@ -15,7 +15,8 @@ use Rattle.shared_rule.specs.LwLocks.{lock_number, LockExists, no_lists, queued_
 use Rattle.shared_rule.specs.Plays.{account_at, number_at, todo_at, FitsTable, HasSession}
 use Rattle.shared_rule.specs.Todos.{IsLatestBy, TriesAtMost, todo_attempted, todo_in_list}
 
--- What has come since a session was first on its way to a lightweight lock: the members of the lock's trait (`Guarded` of lw_lock).
+-- What has come since a session was first on its way to a lightweight lock: the members of the lock's trait
+-- (`Guarded` of lw_lock).
 
 -- Who comes for which lock of which table, of which sizes, and in which mode.
 pub record Sought : Type 0 where
@@ -35,7 +36,8 @@ MayGet (OfPart part) mode a = Unit {0}
 MayGet (OfSlots owner) mode a = MayGetSlots mode a owner
 
 module _ {T : Type 0} (content : T → Content) (sought : Sought) where
-  -- The session may attempt the lock, and wait for it: it is in no list, has earlier locks alone, and at most this one to attempt.
+  -- The session may attempt the lock, and wait for it: it is in no list, has earlier locks alone, and at most
+  -- this one to attempt.
   pub record MayWait (seat : Seat (Kept T) (View T)) : Type 0 where
     pub fits : FitsTable seat sought.sizes sought.table
     pub exists : LockExists sought.sizes.sessions sought.lock

@@ -18,12 +18,14 @@ abbrev pub all_told : Account → List LwWaiter → Account
 all_told a [] = a
 all_told a (waiter ∷ others) = all_told (account_telling a waiter.session) others
 
--- What it makes of what a session has to do that these sessions are taken off a list: it has to call each of them.
+-- What it makes of what a session has to do that these sessions are taken off a list: it has to call each of
+-- them.
 abbrev pub all_owed : Todo → List LwWaiter → Todo
 all_owed todo [] = todo
 all_owed todo (waiter ∷ others) = all_owed (todo_owing todo waiter.session) others
 
--- What it makes of what a session has to do that these sessions are told, and called after that: it has to call none of them any more.
+-- What it makes of what a session has to do that these sessions are told, and called after that: it has to
+-- call none of them any more.
 abbrev pub all_called : Todo → List LwWaiter → Todo
 all_called todo [] = todo
 all_called todo (waiter ∷ others) = all_called (todo_calling (todo_owing todo waiter.session) waiter.session) others

@@ -10,8 +10,9 @@ use Rattle.lock_world.specs.Telling.{TellsWhatIs}
 use Rattle.shared_rule.specs.declared.rule.TableSizes.{TableSizes}
 use Rattle.shared_rule.specs.Tells.{Leads}
 
--- What an entry of a session's trace tells was so: events lead from the World before the first step to the World `now`, and
--- a World on the way, in which the session's trace was just what stands before the entry, was as it tells, or the next one was.
+-- What an entry of a session's trace tells was so: events lead from the World before the first step to the
+-- World `now`, and a World on the way, in which the session's trace was just what stands before the entry,
+-- was as it tells, or the next one was.
 pub record WasSo (sizes : TableSizes) (now : World) (session : ℕ) (before : List TraceEntry) (entry : TraceEntry) : Type 0 where
   pub events : List Event
   pub worlds : List World
@@ -25,8 +26,8 @@ pub record WasSo (sizes : TableSizes) (now : World) (session : ℕ) (before : Li
   pub trace : world.sessions.trace session ≡ before
   pub tells : TellsWhatIs world next entry
 
--- On the way of these events there is a World in which the partition was in hand, with this content taken, and the owner's slot had the
--- mode on the object.
+-- On the way of these events there is a World in which the partition was in hand, with this content taken,
+-- and the owner's slot had the mode on the object.
 pub record WasInSlot (first now : World) (events : List Event) (partition owner slot : ℕ) (tag : Tag) (mode : Mode) (taken : Content) :
     Type 0 where
   pub before : List Event

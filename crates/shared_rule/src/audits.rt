@@ -110,8 +110,8 @@ fn look_over_strong<T: PartTable, M: Marking<T>>(
     look_over_as::<T, M>(words, seat, strong_word(index))
 }
 
-// Has clauses learn which sessions are at `seat`, each with as many groups of slots as `G` says, and where each one's
-// own holds are. Loads a word of `words`, and ignores what it finds.
+// Has clauses learn which sessions are at `seat`, each with as many groups of slots as `G` says, and where
+// each one's own holds are. Loads a word of `words`, and ignores what it finds.
 fn tell_all_as<T: PartTable, G: Sizing>(words: &SharedWords<T>, seat: &mut Seat<T>)
     requires table { FitsTable seat.old words.now.key words.now.table_id }
     requires session { HasSession seat.old.me.0 }
@@ -229,7 +229,8 @@ fn take_next<T: PartTable, R: Wait>(
     take_part_alone(rt, words, seat, part)
 }
 
-// Puts a partition back as it was taken. A session that waits for its lock is woken, though all sessions are gathered.
+// Puts a partition back as it was taken. A session that waits for its lock is woken, though all sessions are
+// gathered.
 fn put_back<T: PartTable>(words: &SharedWords<T>, seat: &mut Seat<T>, part: u8, content: T)
     requires table { FitsTable seat.old words.now.key words.now.table_id }
     requires exists { part < 16 }
@@ -247,9 +248,10 @@ fn put_back<T: PartTable>(words: &SharedWords<T>, seat: &mut Seat<T>, part: u8, 
     put_part::<T, Brand>(words, seat, part, &Move::Keep, content);
 }
 
-/// Adds to `fast` how many modes fast-path slots show, loaded while all partitions from `part` on are in hand, and appends the rows of these partitions to
-/// `rows`. The partitions are taken in rising order, and put back unchanged in the opposite one. Where memory for the rows runs out the call is refused, and
-/// the partitions are put back in that case too.
+/// Adds to `fast` how many modes fast-path slots show, loaded while all partitions from `part` on are in
+/// hand, and appends the rows of these partitions to `rows`. The partitions are taken in rising order, and
+/// put back unchanged in the opposite one. Where memory for the rows runs out the call is refused, and the
+/// partitions are put back in that case too.
 pub(crate) fn count_from<T: PartTable, R: Wait>(
     rt: &R,
     words: &SharedWords<T>,
@@ -294,10 +296,11 @@ fn granted_in(rows: &[TableRow]) -> u64
 }
 
 impl<T: PartTable> SeatOpener<T> {
-    /// Counts what is in `table`, with all open sessions gathered at the opener's seat and nobody waiting: the strong lock counters, each by a load; the
-    /// modes that fast-path slots show, each slot loaded with all partitions in hand; and the rows of the partitions, which are appended to `rows`, an empty
-    /// list. The first gathered session makes the steps. Where memory for the rows runs out the call is refused, and sessions and table are as before in that
-    /// case too.
+    /// Counts what is in `table`, with all open sessions gathered at the opener's seat and nobody waiting:
+    /// the strong lock counters, each by a load; the modes that fast-path slots show, each slot loaded with
+    /// all partitions in hand; and the rows of the partitions, which are appended to `rows`, an empty list.
+    /// The first gathered session makes the steps. Where memory for the rows runs out the call is refused,
+    /// and sessions and table are as before in that case too.
     pub fn count<R: Wait>(
         &mut self,
         rt: &R,

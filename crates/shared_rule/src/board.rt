@@ -1,6 +1,6 @@
-//! Shared state as one session sees it. All that a session does on it goes by these calls, each of them one atomic step
-//! (or several attempts at one), so what is proved over any board holds for the table that threads share and for the
-//! fake that tests use.
+//! Shared state as one session sees it. All that a session does on it goes by these calls, each of them one
+//! atomic step (or several attempts at one), so what is proved over any board holds for the table that
+//! threads share and for the fake that tests use.
 
 ghost use Rattle.std.specs.Prelude.{◌≡◌, ◌<◌, ◌≤◌, ◌*◌, ◌||◌, ◌==◌, ℕ, List, [], ◌∷◌, map, Some, None};
 ghost use Rattle.modes_core.specs.Tag.{partition_of};
@@ -41,14 +41,15 @@ use lw_word::SlotWord;
 use modes_core::{Mode, SessionId, Tag};
 use std::sync::Wait;
 
-/// One session's board. Contracts see the session's account: its holds, what it has in hand and counted, its trace. They also
-/// see its quiet steps, which leave no trace: each call says which of them it makes.
+/// One session's board. Contracts see the session's account: its holds, what it has in hand and counted, its
+/// trace. They also see its quiet steps, which leave no trace: each call says which of them it makes.
 ///
-/// All sessions take lightweight locks in one order: the lock of a session's slots only with no other one in hand, and then partitions in rising
-/// order. Partitions go home in the opposite order of their taking. A session that lets another one go, or asks it to cancel its wait, owes it a
-/// wake, and takes no lock before.
+/// All sessions take lightweight locks in one order: the lock of a session's slots only with no other one in
+/// hand, and then partitions in rising order. Partitions go home in the opposite order of their taking. A
+/// session that lets another one go, or asks it to cancel its wait, owes it a wake, and takes no lock before.
 pub trait Board<T: PartTable> {
-    // Whose board it is, how many sessions there can be, how many groups of slots each has, and at which table.
+    // Whose board it is, how many sessions there can be, how many groups of slots each has, and at which
+    // table.
     ghost seat: { Self → Seated };
 
     // The session's account.
@@ -69,15 +70,15 @@ pub trait Board<T: PartTable> {
     fn sessions(&self) -> u16
         ensures { result ≡ (seat self.now).limit };
 
-    /// How many groups of fast-path slots each session has, 1 to 8 (`FastPathLockGroupsPerBackend` in proc.h of version
-    /// 18).
+    /// How many groups of fast-path slots each session has, 1 to 8 (`FastPathLockGroupsPerBackend` in proc.h
+    /// of version 18).
     fn groups(&self) -> u8
         ensures value { result ≡ (seat self.now).groups }
         ensures some { 0 < (seat self.now).groups }
         ensures few { (seat self.now).groups ≤ most_groups };
 
-    /// Takes the lightweight lock of partition `part` exclusively, and its content in hand (`LWLockAcquire` in
-    /// lwlock.c). The call waits until the lock is free.
+    /// Takes the lightweight lock of partition `part` exclusively, and its content in hand (`LWLockAcquire`
+    /// in lwlock.c). The call waits until the lock is free.
     fn take_part<R: Wait>(&mut self, rt: &R, part: u8) -> T
         requires exists { part < 16 }
         requires rising { IsAboveHand (view self.old) part }
@@ -90,7 +91,8 @@ pub trait Board<T: PartTable> {
         ensures knows { KnowsContent (seat self.old).number (view self.old) part (T.content result) }
         ensures waiters { WaitsExist (seat self.old).limit (T.content result) };
 
-    /// Puts `content` home to partition `part` after the move `done`, and releases the partition's lightweight lock (`LWLockRelease` in lwlock.c).
+    /// Puts `content` home to partition `part` after the move `done`, and releases the partition's
+    /// lightweight lock (`LWLockRelease` in lwlock.c).
     fn put_part(&mut self, part: u8, done: &Move, content: T)
         requires exists { part < 16 }
         requires in_hand { (others : List ℕ) × ((stack self.old).parts ≡ part ∷ others) }
@@ -116,8 +118,9 @@ pub trait Board<T: PartTable> {
         ensures stack { stack self.new ≡ stack self.old }
         ensures quiet { quiet self.new ≡ TakesSlots owner ∷ quiet self.old };
 
-    /// Takes the lock of the session's own fast-path slots if nobody holds that lock: a load of the lock's word and, where bits 0 to 24 are all 0, one
-    /// exchange that expects the very number loaded (`LWLockConditionalAcquire` in lwlock.c). `Busy` where somebody holds the lock, or changed its word
+    /// Takes the lock of the session's own fast-path slots if nobody holds that lock: a load of the lock's
+    /// word and, where bits 0 to 24 are all 0, one exchange that expects the very number loaded
+    /// (`LWLockConditionalAcquire` in lwlock.c). `Busy` where somebody holds the lock, or changed its word
     /// meanwhile.
     fn try_take_fast(&mut self) -> Result<(), Busy>
         requires nothing_due { stack self.old ≡ nothing_due }
@@ -128,7 +131,8 @@ pub trait Board<T: PartTable> {
         ensures stack { stack self.new ≡ stack self.old }
         ensures quiet { quiet self.new ≡ quiet_trying (seat self.old).number result (quiet self.old) };
 
-    /// Releases the lock of the fast-path slots of `owner`, which the session holds exclusively (`LWLockRelease` in lwlock.c).
+    /// Releases the lock of the fast-path slots of `owner`, which the session holds exclusively
+    /// (`LWLockRelease` in lwlock.c).
     fn put_fast(&mut self, owner: SessionId)
         requires exists { owner < (seat self.old).limit }
         requires lawful { (slots : SlotsInHand) × MayPutFastBy (view self.old) owner slots }
@@ -138,8 +142,8 @@ pub trait Board<T: PartTable> {
         ensures quiet { quiet self.new ≡ quiet self.old };
 
     /// Shares the lock of the fast-path slots of `owner`, whether its number is issued or not, so that nobody
-    /// changes them while others may read them too (`fpInfoLock` in `LW_SHARED`, as `GetLockStatusData` in lock.c
-    /// takes it). The call waits until nobody holds the lock exclusively.
+    /// changes them while others may read them too (`fpInfoLock` in `LW_SHARED`, as `GetLockStatusData` in
+    /// lock.c takes it). The call waits until nobody holds the lock exclusively.
     fn share_fast<R: Wait>(&mut self, rt: &R, owner: SessionId)
         requires exists { owner < (seat self.old).limit }
         requires nothing_due { stack self.old ≡ nothing_due }
@@ -152,7 +156,8 @@ pub trait Board<T: PartTable> {
         ensures stack { stack self.new ≡ stack self.old }
         ensures quiet { quiet self.new ≡ SharesSlots owner ∷ quiet self.old };
 
-    /// Gives back the session's share of the lock of the fast-path slots of `owner` (`LWLockRelease` in lwlock.c).
+    /// Gives back the session's share of the lock of the fast-path slots of `owner` (`LWLockRelease` in
+    /// lwlock.c).
     fn unshare_fast(&mut self, owner: SessionId)
         requires exists { owner < (seat self.old).limit }
         requires lawful { (slots : SlotsInHand) × MayUnshareFastBy (view self.old) owner slots }
@@ -161,8 +166,9 @@ pub trait Board<T: PartTable> {
         ensures stack { stack self.new ≡ stack self.old }
         ensures quiet { quiet self.new ≡ quiet self.old };
 
-    /// Releases the lock of the fast-path slots of `owner`, and goes past that session with the strong lock of `mode` on `tag`, which is counted (the end of
-    /// a turn of the loop in `FastPathTransferRelationLocks` in lock.c).
+    /// Releases the lock of the fast-path slots of `owner`, and goes past that session with the strong lock
+    /// of `mode` on `tag`, which is counted (the end of a turn of the loop in `FastPathTransferRelationLocks`
+    /// in lock.c).
     fn pass_fast(&mut self, owner: SessionId, tag: &Tag, mode: Mode)
         requires exists { owner < (seat self.old).limit }
         requires lawful { (slots : SlotsInHand) × MayPassBy (view self.old) owner slots tag.now mode }
@@ -171,8 +177,8 @@ pub trait Board<T: PartTable> {
         ensures stack { stack self.new ≡ stack self.old }
         ensures quiet { quiet self.new ≡ quiet self.old };
 
-    /// Counts a strong lock of `mode` on `tag` in the strong lock counter of `tag`; the strong lock has gone past no session yet (`BeginStrongLockAcquire` in
-    /// lock.c).
+    /// Counts a strong lock of `mode` on `tag` in the strong lock counter of `tag`; the strong lock has gone
+    /// past no session yet (`BeginStrongLockAcquire` in lock.c).
     fn add_strong(&mut self, tag: &Tag, mode: Mode)
         requires lawful { MayCountBy (view self.old) tag.now mode }
         ensures seat { seat self.new ≡ seat self.old }
@@ -180,8 +186,8 @@ pub trait Board<T: PartTable> {
         ensures stack { stack self.new ≡ stack self.old }
         ensures quiet { quiet self.new ≡ CountsStrong tag.now mode ∷ quiet self.old };
 
-    /// Takes the count of the strong lock of `mode` on `tag` back (`AbortStrongLockAcquire` and `RemoveLocalLock` in
-    /// lock.c).
+    /// Takes the count of the strong lock of `mode` on `tag` back (`AbortStrongLockAcquire` and
+    /// `RemoveLocalLock` in lock.c).
     fn sub_strong(&mut self, tag: &Tag, mode: Mode)
         requires lawful { MayUncountBy (view self.old) tag.now mode }
         ensures seat { seat self.new ≡ seat self.old }
@@ -202,8 +208,8 @@ pub trait Board<T: PartTable> {
             → slots.holds ≡ slot_holds result slots.word }
         ensures own { owner ≡ (seat self.old).number → result ≡ (view self.old).fast.database };
 
-    /// Stores `database` as that of the session, which holds nothing: as it is new (`InitPostgres` in postinit.c), or goes on to serve
-    /// somebody else.
+    /// Stores `database` as that of the session, which holds nothing: as it is new (`InitPostgres` in
+    /// postinit.c), or goes on to serve somebody else.
     fn store_database(&mut self, database: u32)
         requires no_hold { HoldsNothing (view self.old) }
         ensures seat { seat self.new ≡ seat self.old }
@@ -225,8 +231,9 @@ pub trait Board<T: PartTable> {
         ensures of_shared_slots { (slots : SlotsInHand) → (view self.old).fast.shared_slots owner ≡ Some slots
             → result ≡ slots.word slot };
 
-    /// Loads the strong lock counter at `index`. Where the counter shows 0 while the session has the lock of its own slots, the session may set slots for
-    /// objects of that index until it releases that lock (`FastPathStrongRelationLocks->count` in `LockAcquireExtended` of lock.c).
+    /// Loads the strong lock counter at `index`. Where the counter shows 0 while the session has the lock of
+    /// its own slots, the session may set slots for objects of that index until it releases that lock
+    /// (`FastPathStrongRelationLocks->count` in `LockAcquireExtended` of lock.c).
     fn load_strong(&mut self, index: u16) -> u64
         requires within { index < 1024 }
         ensures seat { seat self.new ≡ seat self.old }
@@ -261,8 +268,8 @@ pub trait Board<T: PartTable> {
         ensures quiet { quiet self.new ≡ quiet self.old };
 
     /// Moves `mode` on `tag` from the slot `slot` of `owner`, whose word shows `shown`, to `content` in hand,
-    /// which has it already, with the strong lock of the mode `strong` counted, which is to go past that session
-    /// next (a mode of the inner loop of `FastPathTransferRelationLocks` in lock.c).
+    /// which has it already, with the strong lock of the mode `strong` counted, which is to go past that
+    /// session next (a mode of the inner loop of `FastPathTransferRelationLocks` in lock.c).
     fn transfer_slot(
         &mut self,
         owner: SessionId,
@@ -285,8 +292,8 @@ pub trait Board<T: PartTable> {
         ensures stack { stack self.new ≡ stack self.old }
         ensures quiet { quiet self.new ≡ quiet self.old };
 
-    /// Stores in the session's own wait word that the session waits for `mode` on `tag`, with its join made in `content` in hand (`ProcSleep` in proc.c sets
-    /// `waitStatus` so).
+    /// Stores in the session's own wait word that the session waits for `mode` on `tag`, with its join made
+    /// in `content` in hand (`ProcSleep` in proc.c sets `waitStatus` so).
     fn set_waiting(&mut self, tag: &Tag, mode: Mode, content: &T)
         requires lawful { (mine : InHand) × MayMoveBy (seat self.old).limit (seat self.old).number (view self.old)
             (partition_of tag.now) mine (Join tag.now mode) [] (T.content content.now) }
@@ -298,9 +305,10 @@ pub trait Board<T: PartTable> {
         ensures stack { stack self.new ≡ stack self.old }
         ensures quiet { quiet self.new ≡ quiet self.old };
 
-    /// Marks the wait of `other` granted, one of the sessions in `woken`, whose waits the move `done` grants in `content`, that of partition `part` in hand
-    /// (`ProcWakeup` in proc.c sets `waitStatus`). The first mark records the move, and the session's own holds follow the move; once all sessions in `woken`
-    /// are marked the partition is put with the move `Keep`. From the mark on `other` is owed a wake.
+    /// Marks the wait of `other` granted, one of the sessions in `woken`, whose waits the move `done` grants
+    /// in `content`, that of partition `part` in hand (`ProcWakeup` in proc.c sets `waitStatus`). The first
+    /// mark records the move, and the session's own holds follow the move; once all sessions in `woken` are
+    /// marked the partition is put with the move `Keep`. From the mark on `other` is owed a wake.
     fn mark_granted(
         &mut self,
         part: u8,
@@ -322,8 +330,8 @@ pub trait Board<T: PartTable> {
         ensures stack { stack self.new ≡ stack_owing (stack self.old) other }
         ensures quiet { quiet self.new ≡ quiet self.old };
 
-    /// Loads the session's own wait word: 2 in bits 0 to 1 where the wait was granted, bit 2 set where it was asked to cancel (`waitStatus` in proc.h, as
-    /// `ProcSleep` in proc.c reads it).
+    /// Loads the session's own wait word: 2 in bits 0 to 1 where the wait was granted, bit 2 set where it was
+    /// asked to cancel (`waitStatus` in proc.h, as `ProcSleep` in proc.c reads it).
     fn load_wait(&mut self) -> u64
         ensures seat { seat self.new ≡ seat self.old }
         ensures view { view self.new ≡
@@ -342,7 +350,8 @@ pub trait Board<T: PartTable> {
         ensures quiet { quiet self.new ≡ quiet self.old }
         ensures own { other ≡ (seat self.old).number → (view self.old).awaited ≡ None → wait_state result ≡ 0 };
 
-    /// Clears the session's own wait word: the wait is over, since the grant was seen or the wait is gone from the content in hand.
+    /// Clears the session's own wait word: the wait is over, since the grant was seen or the wait is gone
+    /// from the content in hand.
     fn clear_wait(&mut self)
         requires lawful { (wait : OwnWait) × MayClearBy (seat self.old).number (view self.old) wait }
         ensures seat { seat self.new ≡ seat self.old }
@@ -350,8 +359,9 @@ pub trait Board<T: PartTable> {
         ensures stack { stack self.new ≡ stack self.old }
         ensures quiet { quiet self.new ≡ quiet self.old };
 
-    /// Clears the session's own wait word, and records that its wait was taken out of the wait queue in `content` in hand, which granted the waits of the
-    /// sessions in `woken` (`RemoveFromWaitQueue` in lock.c).
+    /// Clears the session's own wait word, and records that its wait was taken out of the wait queue in
+    /// `content` in hand, which granted the waits of the sessions in `woken` (`RemoveFromWaitQueue` in
+    /// lock.c).
     fn leave_queue(&mut self, woken: &[(SessionId, Mode)], content: &T)
         requires lawful { (wait : OwnWait) × (mine : InHand) × (granted : List contents.Wait)
             × (woken.now ≡ map whose_and_mode granted)
@@ -363,17 +373,19 @@ pub trait Board<T: PartTable> {
         ensures stack { stack self.new ≡ stack self.old }
         ensures quiet { quiet self.new ≡ quiet self.old };
 
-    /// Sleeps while the session's own wait word shows `shown`, until somebody wakes the session; the call may also return for no reason (`WaitLatch` in
-    /// `ProcSleep` of proc.c). The session has loaded that number just before, so no grant and no request to cancel that came since is slept through. It has
-    /// no lightweight lock, so nobody waits for one that it would keep while it sleeps, and owes nobody a wake.
+    /// Sleeps while the session's own wait word shows `shown`, until somebody wakes the session; the call may
+    /// also return for no reason (`WaitLatch` in `ProcSleep` of proc.c). The session has loaded that number
+    /// just before, so no grant and no request to cancel that came since is slept through. It has no
+    /// lightweight lock, so nobody waits for one that it would keep while it sleeps, and owes nobody a wake.
     fn sleep<R: Wait>(&self, rt: &R, shown: u64)
         requires looked { HasJustLooked (seat self.now).number (view self.now) shown }
         requires nothing_due { stack self.now ≡ nothing_due }
         requires no_slots { (owner : ℕ) → (view self.now).fast.slots owner ≡ None }
         requires no_shared_slots { (owner : ℕ) → (view self.now).fast.shared_slots owner ≡ None };
 
-    /// Wakes `other`, which sleeps until its wait word changes (`SetLatch` in `ProcWakeup` of proc.c): `other` is owed one wake less from then on. The call
-    /// is no step on a word, but the history of the session that makes it notes the wake.
+    /// Wakes `other`, which sleeps until its wait word changes (`SetLatch` in `ProcWakeup` of proc.c):
+    /// `other` is owed one wake less from then on. The call is no step on a word, but the history of the
+    /// session that makes it notes the wake.
     fn wake(&mut self, other: SessionId)
         requires exists { other < (seat self.old).limit }
         ensures seat { seat self.new ≡ seat self.old }

@@ -13,8 +13,8 @@ use crate::words::{fetch_add_as, fetch_sub_as, load_as};
 use lock_table::PartTable;
 use modes_core::{Mode, Tag};
 
-/// Counts a strong lock of `mode` on `tag` in the strong lock counter of `tag`; the strong lock has gone past no session yet (`BeginStrongLockAcquire` in
-/// lock.c).
+/// Counts a strong lock of `mode` on `tag` in the strong lock counter of `tag`; the strong lock has gone past
+/// no session yet (`BeginStrongLockAcquire` in lock.c).
 pub(crate) fn add_strong<T: PartTable, M: Marking<T>>(
     words: &SharedWords<T>,
     seat: &mut Seat<T>,
@@ -31,8 +31,8 @@ pub(crate) fn add_strong<T: PartTable, M: Marking<T>>(
     fetch_add_as::<T, M>(words, seat, strong_word(tag.strong_index()), 1);
 }
 
-/// Takes the count of the strong lock of `mode` on `tag` back (`AbortStrongLockAcquire`, and `RemoveLocalLock` in
-/// lock.c).
+/// Takes the count of the strong lock of `mode` on `tag` back (`AbortStrongLockAcquire`, and
+/// `RemoveLocalLock` in lock.c).
 pub(crate) fn sub_strong<T: PartTable, M: Marking<T>>(
     words: &SharedWords<T>,
     seat: &mut Seat<T>,

@@ -1,5 +1,5 @@
-//! Sessions gathered at the opener's seat, and sent back. While a session is there it makes no step of its own; the
-//! first to come is the one that makes steps.
+//! Sessions gathered at the opener's seat, and sent back. While a session is there it makes no step of its
+//! own; the first to come is the one that makes steps.
 
 ghost use Rattle.std.specs.Prelude.{◌≡◌, ◌++◌, List, [], ◌∷◌};
 ghost use Rattle.shared_rule.specs.Boards.{nothing_due, Seated};
@@ -18,8 +18,9 @@ use lock_table::PartTable;
 use modes_core::SessionId;
 use std::marker::Model;
 
-/// A session whose seat is gathered at the opener's: what is left of its board. It is not `Drop`, so that nobody lets one go, which would leave its session
-/// at the opener's seat for ever. Contracts see which session it is of, and at which table.
+/// A session whose seat is gathered at the opener's: what is left of its board. It is not `Drop`, so that
+/// nobody lets one go, which would leave its session at the opener's seat for ever. Contracts see which
+/// session it is of, and at which table.
 pub struct Absent<'a, T: PartTable> {
     table: &'a SharedWords<T>,
     number: SessionId,
@@ -46,7 +47,8 @@ impl<'a, T: PartTable> Model for Absent<'a, T> {
 }
 
 impl<T: PartTable> SeatOpener<T> {
-    /// Gathers the session of `board`, which has nothing in hand: its seat joins the opener's, after the sessions gathered before.
+    /// Gathers the session of `board`, which has nothing in hand: its seat joins the opener's, after the
+    /// sessions gathered before.
     pub fn gather<'a>(&mut self, board: SeatBoard<'a, T>) -> Absent<'a, T>
         requires table { (⟦<SeatBoard<'a, T> as Board<T>>⟧.seat board).table ≡ self.old.table }
         requires stack { ⟦<SeatBoard<'a, T> as Board<T>>⟧.stack board ≡ nothing_due }

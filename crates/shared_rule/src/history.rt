@@ -1,5 +1,5 @@
-//! What each session's seat at the table knows: the session's history, all steps that it has made. No value of
-//! these types is ever made. Clauses alone read them, and what they say of a session is its account
+//! What each session's seat at the table knows: the session's history, all steps that it has made. No value
+//! of these types is ever made. Clauses alone read them, and what they say of a session is its account
 //! (`lock_world`'s `Account`), which the history tells.
 
 use lock_table::Move;
@@ -7,10 +7,11 @@ use lw_word::{LwMode, LwWaiter};
 use modes_core::{Mode, Tag};
 use std::collections::LinkedList;
 
-/// The mark that a step leaves in its session's history, where it names no partition's content. A type apart from `Mark`, since it doesn't depend on the type
-/// of contents.
+/// The mark that a step leaves in its session's history, where it names no partition's content. A type apart
+/// from `Mark`, since it doesn't depend on the type of contents.
 pub enum WordMark {
-    /// The session took the lock of the fast-path slots of `owner` exclusively, which show `words` with the database word `database`.
+    /// The session took the lock of the fast-path slots of `owner` exclusively, which show `words` with the
+    /// database word `database`.
     TookFast {
         /// The session whose fast-path slots, or whose lock of them, the step is on.
         owner: u16,
@@ -19,14 +20,16 @@ pub enum WordMark {
         /// The words of the fast-path slots of `owner`.
         words: [u64; 0],
     },
-    /// The session, which held the lock of the fast-path slots of `owner` exclusively, released it. The lock's word showed `found` before.
+    /// The session, which held the lock of the fast-path slots of `owner` exclusively, released it. The
+    /// lock's word showed `found` before.
     PutFast {
         /// The session whose fast-path slots, or whose lock of them, the step is on.
         owner: u16,
         /// What the word of the released lightweight lock showed before its release.
         found: u64,
     },
-    /// The session shares the lock of the fast-path slots of `owner`, which show `words` with the database word `database`.
+    /// The session shares the lock of the fast-path slots of `owner`, which show `words` with the database
+    /// word `database`.
     SharedFast {
         /// The session whose fast-path slots, or whose lock of them, the step is on.
         owner: u16,
@@ -35,15 +38,16 @@ pub enum WordMark {
         /// The words of the fast-path slots of `owner`.
         words: [u64; 0],
     },
-    /// The session gave back its share of the lock of the fast-path slots of `owner`. The lock's word showed `found` before.
+    /// The session gave back its share of the lock of the fast-path slots of `owner`. The lock's word showed
+    /// `found` before.
     UnsharedFast {
         /// The session whose fast-path slots, or whose lock of them, the step is on.
         owner: u16,
         /// What the word of the released lightweight lock showed before its release.
         found: u64,
     },
-    /// The session released the lock of the fast-path slots of `owner`, and its strong lock of `mode` on `tag`, which it has counted, is past `owner`. The
-    /// lock's word showed `found` before.
+    /// The session released the lock of the fast-path slots of `owner`, and its strong lock of `mode` on
+    /// `tag`, which it has counted, is past `owner`. The lock's word showed `found` before.
     Passed {
         /// The session whose fast-path slots the released lock guards.
         owner: u16,
@@ -128,7 +132,8 @@ pub enum WordMark {
         /// The mode that was cleared in the fast-path slot.
         mode: Mode,
     },
-    /// The session moved `mode` on `tag` from the fast-path slot `slot` of `owner` to the content in hand of the partition of `tag`.
+    /// The session moved `mode` on `tag` from the fast-path slot `slot` of `owner` to the content in hand of
+    /// the partition of `tag`.
     TransferredSlot {
         /// The session whose fast-path slots, or whose lock of them, the step is on.
         owner: u16,
@@ -165,7 +170,8 @@ pub enum WordMark {
         /// The session that was taken off the wait list.
         other: u16,
     },
-    /// The session told `other`, which it had taken off a wait list, that it may go on: it stored so in the sleep word of `other`.
+    /// The session told `other`, which it had taken off a wait list, that it may go on: it stored so in the
+    /// sleep word of `other`.
     Told {
         /// The session whose sleep word was changed: it may go on.
         other: u16,
@@ -185,23 +191,26 @@ pub enum WordMark {
         /// The number of the lightweight lock.
         lock: u16,
     },
-    /// The session saw that another session has the wait list of the lightweight lock numbered `lock` locked: no step, but a look at the lock's word.
+    /// The session saw that another session has the wait list of the lightweight lock numbered `lock` locked:
+    /// no step, but a look at the lock's word.
     SawListLocked {
         /// The number of the lightweight lock.
         lock: u16,
     },
-    /// The session saw that another session holds the lightweight lock numbered `lock`, in the way of its own attempt: no step, but a look at the lock's
-    /// word.
+    /// The session saw that another session holds the lightweight lock numbered `lock`, in the way of its own
+    /// attempt: no step, but a look at the lock's word.
     SawHeld {
         /// The number of the lightweight lock.
         lock: u16,
     },
-    /// The session calls `other`, which may be parked on its wait word: no step, but a look at that word, right before the call.
+    /// The session calls `other`, which may be parked on its wait word: no step, but a look at that word,
+    /// right before the call.
     CalledWaiter {
         /// The session that is called, to go on if it is parked.
         other: u16,
     },
-    /// The session calls `other`, which may be parked on its sleep word: no step, but a look at that word, right before the call.
+    /// The session calls `other`, which may be parked on its sleep word: no step, but a look at that word,
+    /// right before the call.
     CalledSleeper {
         /// The session that is called, to go on if it is parked.
         other: u16,
@@ -217,7 +226,8 @@ pub enum Mark<T> {
         /// The content of the partition.
         taken: T,
     },
-    /// The session put the partition `part` home with the content `put`, after the move `done`. The word of the partition's lock showed `found` before.
+    /// The session put the partition `part` home with the content `put`, after the move `done`. The word of
+    /// the partition's lock showed `found` before.
     PutPart {
         /// The number of the partition.
         part: u8,
@@ -228,7 +238,8 @@ pub enum Mark<T> {
         /// What the word of the released lightweight lock showed before its release.
         found: u64,
     },
-    /// The session stored in its own wait word that it waits for `mode` on `tag`. The content in hand is `now`, in whose wait queue the session is.
+    /// The session stored in its own wait word that it waits for `mode` on `tag`. The content in hand is
+    /// `now`, in whose wait queue the session is.
     SetWaiting {
         /// The object that the session waits for.
         tag: Tag,
@@ -237,7 +248,8 @@ pub enum Mark<T> {
         /// The content in hand after the session joined the wait queue.
         now: T,
     },
-    /// The session marked the wait of `other` granted. Its move `done`, which made the content in hand `now`, granted the waits of `woken`.
+    /// The session marked the wait of `other` granted. Its move `done`, which made the content in hand `now`,
+    /// granted the waits of `woken`.
     MarkedGranted {
         /// The number of the partition.
         part: u8,
@@ -250,7 +262,8 @@ pub enum Mark<T> {
         /// The content in hand after the move.
         now: T,
     },
-    /// The session cleared its own wait word and left the wait queue, which made the content in hand `now` and granted the waits of `woken`.
+    /// The session cleared its own wait word and left the wait queue, which made the content in hand `now`
+    /// and granted the waits of `woken`.
     LeftQueue {
         /// The sessions whose waits were granted.
         woken: [u16; 0],
@@ -269,9 +282,10 @@ pub struct History<T> {
     pub marks: [Mark<T>; 0],
 }
 
-/// What a seat knows: the histories of the sessions that it is for, and, if it is the opener's, the number that the next session gets, and the histories of
-/// those that closed, the last one first. A seat is one session's, which makes its steps with it. While two sessions meet, the first one's seat has the
-/// other's history after its own.
+/// What a seat knows: the histories of the sessions that it is for, and, if it is the opener's, the number
+/// that the next session gets, and the histories of those that closed, the last one first. A seat is one
+/// session's, which makes its steps with it. While two sessions meet, the first one's seat has the other's
+/// history after its own.
 pub struct View<T> {
     /// The number that the next session gets, at the seat of the opener.
     pub next: Option<u16>,

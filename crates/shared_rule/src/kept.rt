@@ -2,9 +2,9 @@
 
 use lw_word::WaitList;
 
-/// What a shelf keeps: a partition's content, or the wait list of a lightweight lock, each on a shelf of its own. A list
-/// lies behind a pointer, so that a shelf is two words wide; all lists are made before the first step, and then nothing
-/// takes memory.
+/// What a shelf keeps: a partition's content, or the wait list of a lightweight lock, each on a shelf of its
+/// own. A list lies behind a pointer, so that a shelf is two words wide; all lists are made before the first
+/// step, and then nothing takes memory.
 #[derive(Drop)]
 pub enum Kept<T> {
     /// The shelf is empty: what belongs on it is in a session's hand, or nothing belongs on it.

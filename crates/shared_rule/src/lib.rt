@@ -1,5 +1,5 @@
-//! The shared table of atomic words under one rule: where each word stands, what each session's seat knows, and what
-//! holds between any two steps.
+//! The shared table of atomic words under one rule: where each word stands, what each session's seat knows,
+//! and what holds between any two steps.
 #![tactic(auto)]
 
 mod audits;

@@ -1,6 +1,6 @@
-//! The steps of a session on the wait lists of lightweight locks, and on the sleep words of those who stand there.
-//! A list is in hand while its bit in the lock's word is set; changes of it are made in memory beside the step that
-//! is told.
+//! The steps of a session on the wait lists of lightweight locks, and on the sleep words of those who stand
+//! there. A list is in hand while its bit in the lock's word is set; changes of it are made in memory beside
+//! the step that is told.
 
 ghost use Rattle.std.specs.Prelude.{◌≡◌, ◌≢◌, ◌<◌, ◌∷◌, ℕ, Some, None, IfSome, IfNone, true, false, []};
 ghost use Rattle.atomic_table.specs.Table.{rest};
@@ -37,9 +37,11 @@ use lw_word::{LwMode, LwWord, SleepState, WaitList, has_locked_list};
 use modes_core::SessionId;
 use std::marker::Brand;
 
-/// Makes one attempt to lock the wait list of `lock` (`LWLockWaitListLock` in lwlock.c). A session that gets the list learns of it: the session is in the
-/// list only if its account has that it waits for `lock`; the list has room for all sessions that there can be; and all waiters in the list are such
-/// sessions. A session that has to wake waiters after it released `lock` has done its part with the attempt: it has the list in hand, or another session has.
+/// Makes one attempt to lock the wait list of `lock` (`LWLockWaitListLock` in lwlock.c). A session that gets
+/// the list learns of it: the session is in the list only if its account has that it waits for `lock`; the
+/// list has room for all sessions that there can be; and all waiters in the list are such sessions. A session
+/// that has to wake waiters after it released `lock` has done its part with the attempt: it has the list in
+/// hand, or another session has.
 pub(crate) fn try_lock_list<T: PartTable, G: Sizing>(
     words: &SharedWords<T>,
     seat: &mut Seat<T>,
@@ -73,10 +75,12 @@ pub(crate) fn try_lock_list<T: PartTable, G: Sizing>(
     }
 }
 
-/// Puts the wait list in hand home, which still has room for all sessions, unlocks it, and clears those of the flags has-waiters and release-ok in the word
-/// of its lock that are not to be kept (`LWLockWaitListUnlock`, and the end of `LWLockWakeup`, in lwlock.c). `has_waiters` may go only from an empty list,
-/// and `release_ok` only where somebody was taken off who is yet to be told, and will set it again. Nobody may leave a list so that its waiters are
-/// forgotten: where some are left, the session has taken one off, has the lock, or attempts it next.
+/// Puts the wait list in hand home, which still has room for all sessions, unlocks it, and clears those of
+/// the flags has-waiters and release-ok in the word of its lock that are not to be kept
+/// (`LWLockWaitListUnlock`, and the end of `LWLockWakeup`, in lwlock.c). `has_waiters` may go only from an
+/// empty list, and `release_ok` only where somebody was taken off who is yet to be told, and will set it
+/// again. Nobody may leave a list so that its waiters are forgotten: where some are left, the session has
+/// taken one off, has the lock, or attempts it next.
 pub(crate) fn unlock_list<T: PartTable>(
     words: &SharedWords<T>,
     seat: &mut Seat<T>,
@@ -110,8 +114,8 @@ pub(crate) fn unlock_list<T: PartTable>(
     }
 }
 
-/// Stores in the sleep word of the session `number`, its own, that it waits in the wait list in hand, to take the lightweight lock in `mode`
-/// (`LWLockQueueSelf` in lwlock.c sets `lwWaiting`).
+/// Stores in the sleep word of the session `number`, its own, that it waits in the wait list in hand, to take
+/// the lightweight lock in `mode` (`LWLockQueueSelf` in lwlock.c sets `lwWaiting`).
 pub(crate) fn join_list<T: PartTable, M: Marking<T>>(
     words: &SharedWords<T>,
     seat: &mut Seat<T>,
@@ -137,8 +141,8 @@ pub(crate) fn join_list<T: PartTable, M: Marking<T>>(
     store_as::<T, M>(words, seat, sleep_word(number), SleepState::Waiting as u64);
 }
 
-/// Stores in the sleep word of the session `number`, its own, that it no longer waits, with itself in the list in
-/// hand (`LWLockDequeueSelf` in lwlock.c).
+/// Stores in the sleep word of the session `number`, its own, that it no longer waits, with itself in the
+/// list in hand (`LWLockDequeueSelf` in lwlock.c).
 pub(crate) fn leave_list<T: PartTable>(
     words: &SharedWords<T>,
     seat: &mut Seat<T>,
@@ -162,8 +166,8 @@ pub(crate) fn leave_list<T: PartTable>(
     );
 }
 
-/// Takes `other` off the list in hand: its sleep word shows that it is to be told, and it is owed a call (the first loop of `LWLockWakeup`
-/// in lwlock.c, and `LW_WS_PENDING_WAKEUP`).
+/// Takes `other` off the list in hand: its sleep word shows that it is to be told, and it is owed a call (the
+/// first loop of `LWLockWakeup` in lwlock.c, and `LW_WS_PENDING_WAKEUP`).
 pub(crate) fn take_off<T: PartTable, M: Marking<T>>(
     words: &SharedWords<T>,
     seat: &mut Seat<T>,
@@ -187,7 +191,8 @@ pub(crate) fn take_off<T: PartTable, M: Marking<T>>(
     );
 }
 
-/// Tells `other`, which was taken off a list, that it may go on (the second loop of `LWLockWakeup` in lwlock.c).
+/// Tells `other`, which was taken off a list, that it may go on (the second loop of `LWLockWakeup` in
+/// lwlock.c).
 pub(crate) fn tell<T: PartTable, M: Marking<T>>(
     words: &SharedWords<T>,
     seat: &mut Seat<T>,
@@ -210,8 +215,8 @@ pub(crate) fn tell<T: PartTable, M: Marking<T>>(
     );
 }
 
-/// Calls `other`, which may be parked on its sleep word (`PGSemaphoreUnlock` in `LWLockWakeup` of lwlock.c). The session looks at that word right before the
-/// call, so that its history notes the call.
+/// Calls `other`, which may be parked on its sleep word (`PGSemaphoreUnlock` in `LWLockWakeup` of lwlock.c).
+/// The session looks at that word right before the call, so that its history notes the call.
 pub(crate) fn call_sleeper<T: PartTable, M: Marking<T>>(
     words: &SharedWords<T>,
     seat: &mut Seat<T>,
@@ -229,8 +234,8 @@ pub(crate) fn call_sleeper<T: PartTable, M: Marking<T>>(
     words.wake_one(sleep_word(other));
 }
 
-/// Loads the sleep word of the session `number`, its own (`lwWaiting` in proc.h, as the sleep of `LWLockAcquire` in
-/// lwlock.c reads it).
+/// Loads the sleep word of the session `number`, its own (`lwWaiting` in proc.h, as the sleep of
+/// `LWLockAcquire` in lwlock.c reads it).
 pub(crate) fn load_sleep<T: PartTable>(
     words: &SharedWords<T>,
     seat: &mut Seat<T>,
@@ -290,8 +295,9 @@ pub(crate) fn set_has_waiters<T: PartTable, M: Marking<T>>(
     fetch_or_as::<T, M>(words, seat, lock.word(), LwWord::HAS_WAITERS);
 }
 
-/// Loads the word of `lock`, which the session is to attempt (the loop of `LWLockAttemptLock` in lwlock.c). Where the word shows that somebody holds the
-/// lock, that is noted, and the attempt is over: the session that holds the lock sees the flag has-waiters as it releases the lock.
+/// Loads the word of `lock`, which the session is to attempt (the loop of `LWLockAttemptLock` in lwlock.c).
+/// Where the word shows that somebody holds the lock, that is noted, and the attempt is over: the session
+/// that holds the lock sees the flag has-waiters as it releases the lock.
 pub(crate) fn look_at_lock<T: PartTable>(
     words: &SharedWords<T>,
     seat: &mut Seat<T>,

@@ -35,8 +35,8 @@ use modes_core::{Mode, SessionId, Tag};
 use std::marker::{Brand, PhantomData};
 use std::sync::Wait;
 
-// One attempt to take the lock of a session's slots, of as many groups as the table has, by the number that its word
-// may show.
+// One attempt to take the lock of a session's slots, of as many groups as the table has, by the number that
+// its word may show.
 #[inline(always)]
 fn attempt_fast<T: PartTable, G: Sizing>(
     words: &SharedWords<T>,
@@ -85,8 +85,9 @@ pub(crate) fn attempt_free_fast<T: PartTable>(
     }
 }
 
-/// Takes the lock of the fast-path slots of `owner` exclusively, whether that number is issued or not (`LWLockAcquire` of `fpInfoLock` in lwlock.c). The call
-/// waits in the lock's wait list until the lock is free.
+/// Takes the lock of the fast-path slots of `owner` exclusively, whether that number is issued or not
+/// (`LWLockAcquire` of `fpInfoLock` in lwlock.c). The call waits in the lock's wait list until the lock is
+/// free.
 #[inline]
 pub(crate) fn take_fast<T: PartTable, R: Wait>(
     rt: &R,
@@ -135,7 +136,8 @@ fn load_fast<T: PartTable, M: Marking<T>>(
     load_as::<T, M>(words, seat, fast_word(number))
 }
 
-// Takes the lock of the session's own slots where its word still shows this number, and answers the number that it showed.
+// Takes the lock of the session's own slots where its word still shows this number, and answers the number
+// that it showed.
 #[inline(always)]
 fn take_own_fast<T: PartTable, G: Sizing>(
     words: &SharedWords<T>,
@@ -159,8 +161,8 @@ fn take_own_fast<T: PartTable, G: Sizing>(
     words.compare_exchange::<TriesSlots<G>>(seat, fast_word(number), shown, taken)
 }
 
-/// Takes the lock of the slots of the session `number`, its own, if nobody holds it, by a load and one exchange that
-/// expects the very number loaded (`LWLockConditionalAcquire` in lwlock.c).
+/// Takes the lock of the slots of the session `number`, its own, if nobody holds it, by a load and one
+/// exchange that expects the very number loaded (`LWLockConditionalAcquire` in lwlock.c).
 pub(crate) fn try_take_fast<T: PartTable>(
     words: &SharedWords<T>,
     seat: &mut Seat<T>,
@@ -212,8 +214,8 @@ pub(crate) fn put_fast_home<T: PartTable, M: Marking<T>>(
     fetch_sub_as::<T, M>(words, seat, fast_word(owner), LwMode::Exclusive.amount())
 }
 
-/// Releases the lock of the fast-path slots of `owner` (`LWLockRelease` of `fpInfoLock` in lwlock.c). Where the lock's word says so the call wakes sessions
-/// that wait for the lock.
+/// Releases the lock of the fast-path slots of `owner` (`LWLockRelease` of `fpInfoLock` in lwlock.c). Where
+/// the lock's word says so the call wakes sessions that wait for the lock.
 pub(crate) fn put_fast<T: PartTable, M: Marking<T>>(
     words: &SharedWords<T>,
     seat: &mut Seat<T>,
@@ -256,9 +258,10 @@ pub(crate) fn pass_fast_home<T: PartTable, M: Marking<T>>(
     fetch_sub_as::<T, M>(words, seat, fast_word(owner), LwMode::Exclusive.amount())
 }
 
-/// Releases the lock of the fast-path slots of `owner`, and goes past that session with the strong lock of `mode` on `tag`, which is counted (the end of a
-/// turn of the loop in `FastPathTransferRelationLocks` in lock.c): `owner` has no slot in use for `tag`. Where the lock's word says so the call wakes
-/// sessions that wait for the lock.
+/// Releases the lock of the fast-path slots of `owner`, and goes past that session with the strong lock of
+/// `mode` on `tag`, which is counted (the end of a turn of the loop in `FastPathTransferRelationLocks` in
+/// lock.c): `owner` has no slot in use for `tag`. Where the lock's word says so the call wakes sessions that
+/// wait for the lock.
 pub(crate) fn pass_fast<T: PartTable, M: Marking<T>>(
     words: &SharedWords<T>,
     seat: &mut Seat<T>,

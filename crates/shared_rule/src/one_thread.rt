@@ -25,7 +25,8 @@ use std::alloc::Global;
 use std::marker::Brand;
 use std::sync::Wait;
 
-/// A table and the one seat at it. Each of its calls as a board is that of a `SeatBoard`, so code over any board does on it what it does on a shared table.
+/// A table and the one seat at it. Each of its calls as a board is that of a `SeatBoard`, so code over any
+/// board does on it what it does on a shared table.
 #[derive(Drop)]
 pub struct OneThread<T: PartTable> {
     table: SharedTable<T>,
@@ -40,7 +41,8 @@ pub struct OneThread<T: PartTable> {
 }
 
 impl<T: PartTable> OneThread<T> {
-    /// Session 0 at a new table of `sizes`, with `parts` on its shelves. Where memory, by `alloc`, runs out `parts` come back.
+    /// Session 0 at a new table of `sizes`, with `parts` on its shelves. Where memory, by `alloc`, runs out
+    /// `parts` come back.
     pub fn new(
         alloc: Global,
         sizes: &TableSizes,

@@ -19,8 +19,9 @@ use lock_table::PartTable;
 use modes_core::SessionId;
 use std::marker::Model;
 
-/// Gives out session numbers, each once, in rising order (`InitProcess` in proc.c). Contracts see at which table the opener is, how many numbers it has given
-/// out, how many there can be, the histories of the sessions that have closed, and which sessions are gathered at its seat.
+/// Gives out session numbers, each once, in rising order (`InitProcess` in proc.c). Contracts see at which
+/// table the opener is, how many numbers it has given out, how many there can be, the histories of the
+/// sessions that have closed, and which sessions are gathered at its seat.
 #[derive(Drop)]
 pub struct SeatOpener<T: PartTable> {
     pub(crate) seat: Seat<T>,
@@ -91,8 +92,8 @@ impl<T: PartTable> SeatOpener<T> {
         seats::open(table, &mut seat)
     }
 
-    /// The next session's board at `table`, whose account has nothing in it, or `None` where all numbers are given
-    /// out.
+    /// The next session's board at `table`, whose account has nothing in it, or `None` where all numbers are
+    /// given out.
     pub fn session<'a>(&mut self, table: &'a SharedWords<T>) -> Option<SeatBoard<'a, T>>
         requires table { (self.old.table ≡ table.now.table_id) × (self.old.limit ≡ table.now.key.sessions)
             × (self.old.groups ≡ table.now.key.groups) }
@@ -122,8 +123,9 @@ impl<T: PartTable> SeatOpener<T> {
         Some(SeatBoard::at(table, seat, number, self.sizes))
     }
 
-    /// Takes back `board`, that of a session which has nothing any more (`ProcKill` in proc.c). Its number is that of a closed session from then on, with all
-    /// that it did, and all else of the opener is as before. Each session that has closed was given out, and none has closed twice.
+    /// Takes back `board`, that of a session which has nothing any more (`ProcKill` in proc.c). Its number is
+    /// that of a closed session from then on, with all that it did, and all else of the opener is as before.
+    /// Each session that has closed was given out, and none has closed twice.
     pub fn close<'a>(&mut self, board: SeatBoard<'a, T>)
         requires table { (⟦<SeatBoard<'a, T> as Board<T>>⟧.seat board).table ≡ self.old.table }
         requires stack { ⟦<SeatBoard<'a, T> as Board<T>>⟧.stack board ≡ nothing_due }

@@ -20,7 +20,8 @@ use modes_core::SessionId;
 use std::marker::PhantomData;
 use std::sync::Wait;
 
-/// The lightweight lock of partition `part`, as the session `number` comes to take it: with the lock the partition's content comes in hand.
+/// The lightweight lock of partition `part`, as the session `number` comes to take it: with the lock the
+/// partition's content comes in hand.
 #[derive(Drop)]
 pub(crate) struct PartLock<'a, T: PartTable> {
     pub(crate) words: &'a SharedWords<T>,
@@ -112,7 +113,8 @@ fn take_part_held<T: PartTable, R: Wait>(
     )
 }
 
-/// The lightweight lock of partition `part`, as a session that has the partition in hand releases it: the content goes home, after the move `done`.
+/// The lightweight lock of partition `part`, as a session that has the partition in hand releases it: the
+/// content goes home, after the move `done`.
 #[derive(Drop)]
 pub(crate) struct PartInHand<'a, T: PartTable, M: Marking<T>> {
     pub(crate) words: &'a SharedWords<T>,

@@ -93,8 +93,8 @@ pub(crate) fn attempt_free_part<T: PartTable>(
     }
 }
 
-/// Takes partition `part` while all sessions that are open are gathered at one seat: nobody holds its lock then, so
-/// the attempt is repeated only where its exchange is lost to a flag of the word.
+/// Takes partition `part` while all sessions that are open are gathered at one seat: nobody holds its lock
+/// then, so the attempt is repeated only where its exchange is lost to a flag of the word.
 pub(crate) fn take_part_alone<T: PartTable, R: Wait>(
     rt: &R,
     words: &SharedWords<T>,
@@ -120,8 +120,9 @@ pub(crate) fn take_part_alone<T: PartTable, R: Wait>(
     unreachable!()
 }
 
-/// Takes the lightweight lock of partition `part` exclusively, and its content in hand (`LWLockAcquire` in lwlock.c). The call waits in the lock's list until
-/// the lock is free. The answer is the content, of which the caller learns what the account of the session `number` knows of it.
+/// Takes the lightweight lock of partition `part` exclusively, and its content in hand (`LWLockAcquire` in
+/// lwlock.c). The call waits in the lock's list until the lock is free. The answer is the content, of which
+/// the caller learns what the account of the session `number` knows of it.
 #[inline]
 pub(crate) fn take_part<T: PartTable, R: Wait>(
     rt: &R,
@@ -151,8 +152,8 @@ pub(crate) fn take_part<T: PartTable, R: Wait>(
     )
 }
 
-/// Puts `content` home to partition `part`, after the move `done`, releases the partition's lightweight lock, and answers what the lock's word showed. Nobody
-/// is woken.
+/// Puts `content` home to partition `part`, after the move `done`, releases the partition's lightweight lock,
+/// and answers what the lock's word showed. Nobody is woken.
 pub(crate) fn put_part_home<T: PartTable, M: Marking<T>>(
     words: &SharedWords<T>,
     seat: &mut Seat<T>,
@@ -180,8 +181,9 @@ pub(crate) fn put_part_home<T: PartTable, M: Marking<T>>(
     }
 }
 
-/// Puts `content` home to partition `part`, after the move `done`, and releases the partition's lightweight lock (`LWLockRelease` in lwlock.c). Where the
-/// lock's word says so the call wakes sessions that wait for the lock.
+/// Puts `content` home to partition `part`, after the move `done`, and releases the partition's lightweight
+/// lock (`LWLockRelease` in lwlock.c). Where the lock's word says so the call wakes sessions that wait for
+/// the lock.
 pub(crate) fn put_part<T: PartTable, M: Marking<T>>(
     words: &SharedWords<T>,
     seat: &mut Seat<T>,

@@ -6,8 +6,8 @@ use atomic_table::Play;
 use lock_table::PartTable;
 use std::marker::{Brand, PhantomData};
 
-/// The mark that a step leaves in its session's history, as a function of the number that the step finds in its word. Each call that makes a step picks the
-/// mark.
+/// The mark that a step leaves in its session's history, as a function of the number that the step finds in
+/// its word. Each call that makes a step picks the mark.
 pub trait Marking<T> {
     ghost use Rattle.std.specs.Prelude.{ℕ};
     ghost use Rattle.shared_rule.specs.declared.history.Mark.{Mark};
@@ -54,7 +54,8 @@ impl<T, M: Marking<T>> Play<Kept<T>, View<T>> for PutsHome<M> {
     ghost then = { WentHome M.mark };
 }
 
-/// An exchange that takes a partition in hand where it finds the number that it expects, and else changes nothing.
+/// An exchange that takes a partition in hand where it finds the number that it expects, and else changes
+/// nothing.
 pub struct TakesPart<G> {
     of: PhantomData<G>,
 }
@@ -65,7 +66,8 @@ impl<T: PartTable, G: Sizing> Play<Kept<T>, View<T>> for TakesPart<G> {
     ghost then = { TookPartition T.content T.begun G.sizes.sessions };
 }
 
-/// A load or a fetch operation that leaves its mark, and shows what the session's account knows of the number found.
+/// A load or a fetch operation that leaves its mark, and shows what the session's account knows of the number
+/// found.
 pub struct Looks<M> {
     of: PhantomData<M>,
 }
@@ -76,8 +78,8 @@ impl<T: PartTable, M: Marking<T>> Play<Kept<T>, View<T>> for Looks<M> {
     ghost then = { Looked T.content M.mark };
 }
 
-/// An exchange that takes the lock of a session's slots where it finds the number that it expects, and else changes
-/// nothing.
+/// An exchange that takes the lock of a session's slots where it finds the number that it expects, and else
+/// changes nothing.
 pub struct TakesSlots<G> {
     of: PhantomData<G>,
 }
@@ -88,8 +90,8 @@ impl<T: PartTable, G: Sizing> Play<Kept<T>, View<T>> for TakesSlots<G> {
     ghost then = { TookSlotsOr T.content G.sizes.groups unnoted };
 }
 
-/// An exchange that shares the lock of a session's slots where it finds the number that it expects, and else changes
-/// nothing.
+/// An exchange that shares the lock of a session's slots where it finds the number that it expects, and else
+/// changes nothing.
 pub struct SharesSlots<G> {
     of: PhantomData<G>,
 }
@@ -100,8 +102,8 @@ impl<T: PartTable, G: Sizing> Play<Kept<T>, View<T>> for SharesSlots<G> {
     ghost then = { SharedSlotsOr T.content G.sizes.groups unnoted };
 }
 
-/// An exchange that takes the lock of the session's own slots, as `TakesSlots` does, where a lost exchange is noted as
-/// a load of the word.
+/// An exchange that takes the lock of the session's own slots, as `TakesSlots` does, where a lost exchange is
+/// noted as a load of the word.
 pub struct TriesSlots<G> {
     of: PhantomData<G>,
 }
@@ -112,7 +114,8 @@ impl<T: PartTable, G: Sizing> Play<Kept<T>, View<T>> for TriesSlots<G> {
     ghost then = { TookSlotsOr T.content G.sizes.groups noted_load };
 }
 
-/// A fetch-or of a word's list bit that takes the wait list in hand where it finds the bit not set, and else is noted as a look that saw the list locked.
+/// A fetch-or of a word's list bit that takes the wait list in hand where it finds the bit not set, and else
+/// is noted as a look that saw the list locked.
 pub struct LocksList<G> {
     of: PhantomData<G>,
 }
@@ -123,8 +126,8 @@ impl<T: PartTable, G: Sizing> Play<Kept<T>, View<T>> for LocksList<G> {
     ghost then = { LockedListOr T.content G.sizes.sessions };
 }
 
-/// A load of a lightweight word that is noted as a look where it shows that somebody holds the lock, and else changes
-/// nothing.
+/// A load of a lightweight word that is noted as a look where it shows that somebody holds the lock, and else
+/// changes nothing.
 pub struct SeesHeld;
 
 impl<T> Play<Kept<T>, View<T>> for SeesHeld {
@@ -133,7 +136,8 @@ impl<T> Play<Kept<T>, View<T>> for SeesHeld {
     ghost then = { SawHeldOr };
 }
 
-/// A load that changes nothing, and shows the opener that each session that has closed was given out, and closed once.
+/// A load that changes nothing, and shows the opener that each session that has closed was given out, and
+/// closed once.
 pub struct TellsClosed;
 
 impl<T> Play<Kept<T>, View<T>> for TellsClosed {
@@ -142,7 +146,8 @@ impl<T> Play<Kept<T>, View<T>> for TellsClosed {
     ghost then = { ToldClosed };
 }
 
-/// A load that changes nothing, and shows that no hold of a seat's first session conflicts with a hold of its second one.
+/// A load that changes nothing, and shows that no hold of a seat's first session conflicts with a hold of its
+/// second one.
 pub struct TellsApart;
 
 impl<T: PartTable> Play<Kept<T>, View<T>> for TellsApart {
@@ -151,7 +156,8 @@ impl<T: PartTable> Play<Kept<T>, View<T>> for TellsApart {
     ghost then = { ToldApart T.content };
 }
 
-/// A load that leaves its mark, and shows what a seat at which all open sessions are gathered knows of the number found.
+/// A load that leaves its mark, and shows what a seat at which all open sessions are gathered knows of the
+/// number found.
 pub struct LooksOver<M> {
     of: PhantomData<M>,
 }
@@ -162,7 +168,8 @@ impl<T: PartTable, M: Marking<T>> Play<Kept<T>, View<T>> for LooksOver<M> {
     ghost then = { LookedOver T.content M.mark };
 }
 
-/// A load that changes nothing, and shows a seat at which all open sessions are gathered who they are, and where each one's own holds are.
+/// A load that changes nothing, and shows a seat at which all open sessions are gathered who they are, and
+/// where each one's own holds are.
 pub struct TellsAll<G> {
     of: PhantomData<G>,
 }

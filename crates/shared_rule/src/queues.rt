@@ -1,18 +1,19 @@
 //! A session in the list of a lightweight lock that it comes for: joining it, leaving it, and sleeping there
-//! (`LWLockQueueSelf` and `LWLockDequeueSelf` in lwlock.c). When it does which is said by `acquire` of lw_lock.
+//! (`LWLockQueueSelf` and `LWLockDequeueSelf` in lwlock.c). When it does which is said by `acquire` of
+//! lw_lock.
 //!
-//! No wake-up is lost, by clauses. Has-waiters is set before a session joins a list (`join_list`), so that a session
-//! that holds the lock then sees it; and the session attempts the lock after that, before it sleeps
-//! (`sleep_until_told`). A session that was told sets release-ok before it attempts again, and so does a winner that
-//! was taken off its list (`dequeue_self`): else it can't queue or sleep again. A release looks at the list
-//! (`wake_waiters`); where that is locked it may go, since the session that has the list attempts the lock afterwards,
-//! holds it, or has taken somebody off, or nobody is left there (`unlock_list`). What each session has still to do is
-//! `Todo` of specs/Todos.
+//! No wake-up is lost, by clauses. Has-waiters is set before a session joins a list (`join_list`), so that a
+//! session that holds the lock then sees it; and the session attempts the lock after that, before it sleeps
+//! (`sleep_until_told`). A session that was told sets release-ok before it attempts again, and so does a
+//! winner that was taken off its list (`dequeue_self`): else it can't queue or sleep again. A release looks
+//! at the list (`wake_waiters`); where that is locked it may go, since the session that has the list attempts
+//! the lock afterwards, holds it, or has taken somebody off, or nobody is left there (`unlock_list`). What
+//! each session has still to do is `Todo` of specs/Todos.
 //!
-//! A winner leaves the list that it stands in and no other (`dequeue_self`). A session that unlocks a list leaves
-//! has-waiters where somebody waits there, and release-ok where it took nobody off (`unlock_list`). All sessions take
-//! locks in one order. No clause tells that a session that is told is woken by the kernel, after its sleep word shows
-//! 0, and that `park` looks at the word again there.
+//! A winner leaves the list that it stands in and no other (`dequeue_self`). A session that unlocks a list
+//! leaves has-waiters where somebody waits there, and release-ok where it took nobody off (`unlock_list`).
+//! All sessions take locks in one order. No clause tells that a session that is told is woken by the kernel,
+//! after its sleep word shows 0, and that `park` looks at the word again there.
 
 ghost use Rattle.std.specs.Prelude.{◌≡◌, ◌<◌, ◌∷◌, true, None, Some};
 ghost use Rattle.lw_word.specs.WaitList.{stands_in};
@@ -39,8 +40,8 @@ use modes_core::SessionId;
 use std::marker::Brand;
 use std::sync::Wait;
 
-/// Locks the wait list of `lock`: tries until the session has it, with pauses between (`LWLockWaitListLock` in
-/// lwlock.c). A list is in hand for a few steps only.
+/// Locks the wait list of `lock`: tries until the session has it, with pauses between (`LWLockWaitListLock`
+/// in lwlock.c). A list is in hand for a few steps only.
 fn lock_list<T: PartTable, R: Wait>(
     rt: &R,
     words: &SharedWords<T>,
@@ -71,8 +72,10 @@ fn lock_list<T: PartTable, R: Wait>(
     unreachable!()
 }
 
-/// Queues the session `number` at the end of the wait list of `lock`, as one that wants `mode` (`LWLockQueueSelf` in lwlock.c). The flag has-waiters is set
-/// before the session is in the list, so a session that releases the lock from then on sees the flag. The caller attempts the lock once more after this call.
+/// Queues the session `number` at the end of the wait list of `lock`, as one that wants `mode`
+/// (`LWLockQueueSelf` in lwlock.c). The flag has-waiters is set before the session is in the list, so a
+/// session that releases the lock from then on sees the flag. The caller attempts the lock once more after
+/// this call.
 pub(crate) fn queue_self<T: PartTable, R: Wait>(
     rt: &R,
     words: &SharedWords<T>,
@@ -101,8 +104,9 @@ pub(crate) fn queue_self<T: PartTable, R: Wait>(
     unlock_list(words, seat, lock, list, true, true);
 }
 
-/// Sleeps until the sleep word of the session `number`, its own, shows 0: the session that took it off its wait list has said so there (the sleep on the
-/// semaphore in `LWLockAcquire` in lwlock.c). The kernel compares the word before a thread sleeps, so a change of the word that comes meanwhile is not slept
+/// Sleeps until the sleep word of the session `number`, its own, shows 0: the session that took it off its
+/// wait list has said so there (the sleep on the semaphore in `LWLockAcquire` in lwlock.c). The kernel
+/// compares the word before a thread sleeps, so a change of the word that comes meanwhile is not slept
 /// through.
 pub(crate) fn sleep_until_told<T: PartTable, R: Wait>(
     rt: &R,
@@ -131,9 +135,10 @@ pub(crate) fn sleep_until_told<T: PartTable, R: Wait>(
     unreachable!()
 }
 
-/// Leaves the wait list of `lock`, a lock which the session `number` has got meanwhile. Where another session has taken `number` off the list already,
-/// `number` sets the flag release-ok in that one's stead, while it has the list in hand and so knows that it isn't in it. It then waits until its sleep word
-/// says that it was taken off (`LWLockDequeueSelf` in lwlock.c, which sets the flag after it has unlocked the list).
+/// Leaves the wait list of `lock`, a lock which the session `number` has got meanwhile. Where another session
+/// has taken `number` off the list already, `number` sets the flag release-ok in that one's stead, while it
+/// has the list in hand and so knows that it isn't in it. It then waits until its sleep word says that it was
+/// taken off (`LWLockDequeueSelf` in lwlock.c, which sets the flag after it has unlocked the list).
 pub(crate) fn dequeue_self<T: PartTable, R: Wait>(
     rt: &R,
     words: &SharedWords<T>,
@@ -165,8 +170,9 @@ pub(crate) fn dequeue_self<T: PartTable, R: Wait>(
     }
 }
 
-/// Sleeps until the sleep word of the session `number`, which is in the wait list of `lock` or was taken off it, says that it was taken off, and lets
-/// releases wake others again (the end of the loop in `LWLockAcquire` in lwlock.c).
+/// Sleeps until the sleep word of the session `number`, which is in the wait list of `lock` or was taken off
+/// it, says that it was taken off, and lets releases wake others again (the end of the loop in
+/// `LWLockAcquire` in lwlock.c).
 pub(crate) fn sleep_for<T: PartTable, R: Wait>(
     rt: &R,
     words: &SharedWords<T>,

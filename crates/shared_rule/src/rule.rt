@@ -1,12 +1,13 @@
-//! The rule of the table: between any two steps its words, its contents and all histories show a World that is safe.
+//! The rule of the table: between any two steps its words, its contents and all histories show a World that
+//! is safe.
 
 use crate::history::View;
 use crate::kept::Kept;
 use atomic_table::{Shared, TableRule};
 use lock_table::PartTable;
 
-/// The sizes that a shared table is made with: how many sessions there can be, and how many groups of fast-path slots
-/// each has (`MaxBackends` and, in version 18, `FastPathLockGroupsPerBackend`).
+/// The sizes that a shared table is made with: how many sessions there can be, and how many groups of
+/// fast-path slots each has (`MaxBackends` and, in version 18, `FastPathLockGroupsPerBackend`).
 #[derive(Clone, Copy)]
 pub struct TableSizes {
     /// How many sessions there can be.
@@ -15,11 +16,12 @@ pub struct TableSizes {
     pub groups: u8,
 }
 
-/// The rule of the shared table, which holds between any two steps of all sessions: words, contents and the sessions' histories agree, and show a safe World.
+/// The rule of the shared table, which holds between any two steps of all sessions: words, contents and the
+/// sessions' histories agree, and show a safe World.
 pub struct LockTableRule;
 
-/// Each partition's content, and each lightweight lock's wait list, has a shelf of its own, and lies on that shelf while nobody has it in hand. The shelves
-/// between stay unused.
+/// Each partition's content, and each lightweight lock's wait list, has a shelf of its own, and lies on that
+/// shelf while nobody has it in hand. The shelves between stay unused.
 impl<T: PartTable> TableRule<Kept<T>, View<T>, TableSizes> for LockTableRule {
     ghost use Rattle.shared_rule.specs.Ruled.{Ruled};
     ghost use Rattle.shared_rule.specs.History.{opening_view};

@@ -20,8 +20,8 @@ use modes_core::{Mode, SessionId, Tag};
 use std::marker::Brand;
 use std::sync::Wait;
 
-/// A session's seat at the table that all sessions share. It is not `Drop`, so that nobody lets one go, which would
-/// leave its session open for ever.
+/// A session's seat at the table that all sessions share. It is not `Drop`, so that nobody lets one go, which
+/// would leave its session open for ever.
 pub struct SeatBoard<'a, T: PartTable> {
     table: &'a SharedWords<T>,
     seat: Seat<T>,
@@ -59,8 +59,8 @@ impl<'a, T: PartTable> SeatBoard<'a, T> {
         }
     }
 
-    /// Has the board's session meet `other`, a session of the same table, whose board comes back: no hold of the one session conflicts with a hold of the
-    /// other on an object. The accounts of both are as before.
+    /// Has the board's session meet `other`, a session of the same table, whose board comes back: no hold of
+    /// the one session conflicts with a hold of the other on an object. The accounts of both are as before.
     pub fn meet(&mut self, other: SeatBoard<'a, T>) -> SeatBoard<'a, T>
         requires table { (⟦<SeatBoard<'a, T> as Board<T>>⟧.seat other).table
             ≡ (⟦<SeatBoard<'a, T> as Board<T>>⟧.seat self.old).table }

@@ -1,5 +1,5 @@
-//! Seats that are cut in two and joined: a session opens and closes, and sessions meet at one seat. What each does
-//! to the views is in specs/Seats.
+//! Seats that are cut in two and joined: a session opens and closes, and sessions meet at one seat. What each
+//! does to the views is in specs/Seats.
 
 ghost use Rattle.std.specs.Prelude.{◌≡◌, []};
 ghost use Rattle.shared_rule.specs.History.{first_account};
@@ -63,8 +63,8 @@ impl<T> Split<View<T>> for HandsBack {
     ghost right = { handed_back };
 }
 
-/// Opens a session at the seat `opener`, which gives it the next number (`InitProcess` in proc.c), and answers its seat. The
-/// session has made no step yet.
+/// Opens a session at the seat `opener`, which gives it the next number (`InitProcess` in proc.c), and
+/// answers its seat. The session has made no step yet.
 pub(crate) fn open<T: PartTable>(words: &SharedWords<T>, opener: &mut Seat<T>) -> Seat<T>
     requires table { FitsTable opener.old words.now.key words.now.table_id }
     requires number { HasNumber opener.old.me.0 words.now.key.sessions }
@@ -76,8 +76,8 @@ pub(crate) fn open<T: PartTable>(words: &SharedWords<T>, opener: &mut Seat<T>) -
     words.split_seat::<Opens>(opener)
 }
 
-/// Closes the session of the seat `session`, which has nothing any more, nothing to do for those who wait, and nobody to wake:
-/// the seat `opener` has its number as closed (`ProcKill` in proc.c).
+/// Closes the session of the seat `session`, which has nothing any more, nothing to do for those who wait,
+/// and nobody to wake: the seat `opener` has its number as closed (`ProcKill` in proc.c).
 pub(crate) fn close<T: PartTable>(words: &SharedWords<T>, opener: &mut Seat<T>, session: Seat<T>)
     requires table { FitsTable opener.old words.now.key words.now.table_id }
     requires session_table { FitsTable session words.now.key words.now.table_id }
@@ -93,7 +93,8 @@ pub(crate) fn close<T: PartTable>(words: &SharedWords<T>, opener: &mut Seat<T>, 
     words.join_seat::<Closes>(opener, session);
 }
 
-/// Shows the seat `opener` that each session that has closed was given out, and closed once. The call loads one of `words`, and ignores what it finds.
+/// Shows the seat `opener` that each session that has closed was given out, and closed once. The call loads
+/// one of `words`, and ignores what it finds.
 pub(crate) fn tell_closed<T: PartTable>(words: &SharedWords<T>, opener: &mut Seat<T>)
     requires table { FitsTable opener.old words.now.key words.now.table_id }
     requires opener { HasNext opener.old.me.0 }
@@ -104,8 +105,8 @@ pub(crate) fn tell_closed<T: PartTable>(words: &SharedWords<T>, opener: &mut Sea
     words.load::<TellsClosed>(opener, 0);
 }
 
-/// Keeps the session of the seat `other` apart, which holds no word, has nothing to do for those who wait, and has nobody to wake: its history is after those
-/// at `seat`, for as long as the sessions meet.
+/// Keeps the session of the seat `other` apart, which holds no word, has nothing to do for those who wait,
+/// and has nobody to wake: its history is after those at `seat`, for as long as the sessions meet.
 pub(crate) fn keep_apart<T: PartTable>(words: &SharedWords<T>, seat: &mut Seat<T>, other: Seat<T>)
     requires table { FitsTable seat.old words.now.key words.now.table_id }
     requires other_table { FitsTable other words.now.key words.now.table_id }
@@ -119,7 +120,8 @@ pub(crate) fn keep_apart<T: PartTable>(words: &SharedWords<T>, seat: &mut Seat<T
     words.join_seat::<KeepsApart>(seat, other);
 }
 
-/// Takes the seat of the session that came last out of `seat`, by a step on `words`, and hands it back: it goes on by itself.
+/// Takes the seat of the session that came last out of `seat`, by a step on `words`, and hands it back: it
+/// goes on by itself.
 pub(crate) fn hand_back<T: PartTable>(words: &SharedWords<T>, seat: &mut Seat<T>) -> Seat<T>
     requires table { FitsTable seat.old words.now.key words.now.table_id }
     requires last { HasLast seat.old.me.0 }
@@ -131,8 +133,9 @@ pub(crate) fn hand_back<T: PartTable>(words: &SharedWords<T>, seat: &mut Seat<T>
     words.split_seat::<HandsBack>(seat)
 }
 
-/// Shows by `seat`, at which two sessions meet, that no hold of the one conflicts with a hold of the other on an object (`LockConflicts` in lock.c says which
-/// modes do). The call loads one of `words`, and ignores what it finds.
+/// Shows by `seat`, at which two sessions meet, that no hold of the one conflicts with a hold of the other on
+/// an object (`LockConflicts` in lock.c says which modes do). The call loads one of `words`, and ignores what
+/// it finds.
 pub(crate) fn tell_apart<T: PartTable>(words: &SharedWords<T>, seat: &mut Seat<T>)
     requires table { FitsTable seat.old words.now.key words.now.table_id }
     requires two { IsForTwo seat.old.me.0 }

@@ -1,5 +1,5 @@
-//! Sharing the lock of a session's fast-path slots: a session that only reads them lets others read them too, and
-//! nobody write them.
+//! Sharing the lock of a session's fast-path slots: a session that only reads them lets others read them too,
+//! and nobody write them.
 
 ghost use Rattle.std.specs.Bool.{OnTrue, OnFalse};
 ghost use Rattle.std.specs.Prelude.{◌≡◌, ◌<◌, None};
@@ -31,8 +31,8 @@ use modes_core::SessionId;
 use std::marker::{Brand, PhantomData};
 use std::sync::Wait;
 
-// One attempt to share the lock of a session's slots, of as many groups as the table has, by the number that its word
-// may show.
+// One attempt to share the lock of a session's slots, of as many groups as the table has, by the number that
+// its word may show.
 #[inline(always)]
 fn attempt_share<T: PartTable, G: Sizing>(
     words: &SharedWords<T>,
@@ -59,7 +59,8 @@ fn attempt_share<T: PartTable, G: Sizing>(
     true
 }
 
-// One attempt to share the lock of a session's slots where its word shows that nobody holds it exclusively, and else none.
+// One attempt to share the lock of a session's slots where its word shows that nobody holds it exclusively,
+// and else none.
 #[inline(always)]
 pub(crate) fn attempt_free_share<T: PartTable>(
     words: &SharedWords<T>,
@@ -83,8 +84,9 @@ pub(crate) fn attempt_free_share<T: PartTable>(
     }
 }
 
-/// Shares the lock of the fast-path slots of `owner`, whether that number is issued or not (`LWLockAcquire` of `fpInfoLock` with `LW_SHARED` in lwlock.c).
-/// The call waits in the lock's list until nobody holds the lock exclusively.
+/// Shares the lock of the fast-path slots of `owner`, whether that number is issued or not (`LWLockAcquire`
+/// of `fpInfoLock` with `LW_SHARED` in lwlock.c). The call waits in the lock's list until nobody holds the
+/// lock exclusively.
 #[inline]
 pub(crate) fn share_fast<T: PartTable, R: Wait>(
     rt: &R,

@@ -1,5 +1,5 @@
-//! The lock of a session's fast-path slots, as a session comes for it, to write them or to read them, and as it puts it
-//! (`fpInfoLock` in proc.h).
+//! The lock of a session's fast-path slots, as a session comes for it, to write them or to read them, and as
+//! it puts it (`fpInfoLock` in proc.h).
 
 ghost use Rattle.std.specs.Prelude.{◌<◌, IfSome, IfNone};
 ghost use Rattle.lock_world.specs.WaitLists.{fast_lock};
@@ -25,7 +25,8 @@ use modes_core::{Mode, SessionId, Tag};
 use std::marker::PhantomData;
 use std::sync::Wait;
 
-/// The lock of the fast-path slots of `owner`, as the session `number` comes to take it in `mode`: with the lock it knows what the slots show.
+/// The lock of the fast-path slots of `owner`, as the session `number` comes to take it in `mode`: with the
+/// lock it knows what the slots show.
 #[derive(Drop)]
 pub(crate) struct SlotsLock<'a, T: PartTable> {
     pub(crate) words: &'a SharedWords<T>,
@@ -191,8 +192,8 @@ impl<'a, T: PartTable, M: Marking<T>> Held<Seat<T>, ()> for SlotsTaken<'a, T, M>
     }
 }
 
-/// The lock of the fast-path slots of `owner`, as a session that holds it exclusively releases it and goes past `owner` with the strong lock of `mode` on
-/// `tag`.
+/// The lock of the fast-path slots of `owner`, as a session that holds it exclusively releases it and goes
+/// past `owner` with the strong lock of `mode` on `tag`.
 #[derive(Drop)]
 pub(crate) struct SlotsPassed<'a, T: PartTable, M: Marking<T>> {
     pub(crate) words: &'a SharedWords<T>,

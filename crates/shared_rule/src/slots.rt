@@ -1,5 +1,5 @@
-//! The steps of a session on fast-path slots and databases: with the lock of a session's slots in hand it knows what
-//! they show.
+//! The steps of a session on fast-path slots and databases: with the lock of a session's slots in hand it
+//! knows what they show.
 
 ghost use Rattle.std.specs.Prelude.{◌≡◌, ◌<◌, ◌*◌, Some};
 ghost use Rattle.lock_world.specs.Account.{InHand, SlotsInHand};
@@ -133,8 +133,8 @@ pub(crate) fn clear_slot<T: PartTable, M: Marking<T>>(
     );
 }
 
-/// Moves `mode` on `tag` from the slot `slot` of `owner`, which shows `shown`, to `content` in hand, which has it
-/// now (a mode of the inner loop of `FastPathTransferRelationLocks` in lock.c).
+/// Moves `mode` on `tag` from the slot `slot` of `owner`, which shows `shown`, to `content` in hand, which
+/// has it now (a mode of the inner loop of `FastPathTransferRelationLocks` in lock.c).
 pub(crate) fn transfer_slot<T: PartTable, M: Marking<T>>(
     words: &SharedWords<T>,
     seat: &mut Seat<T>,
@@ -164,7 +164,8 @@ pub(crate) fn transfer_slot<T: PartTable, M: Marking<T>>(
     store_as::<T, M>(words, seat, slot_word(sessions, owner, slot), word.number());
 }
 
-/// Stores `database` as that of the session `number`, its own, which holds nothing (`InitPostgres` in postinit.c).
+/// Stores `database` as that of the session `number`, its own, which holds nothing (`InitPostgres` in
+/// postinit.c).
 pub(crate) fn store_database<T: PartTable, M: Marking<T>>(
     words: &SharedWords<T>,
     seat: &mut Seat<T>,

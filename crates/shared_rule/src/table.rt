@@ -24,7 +24,8 @@ use std::alloc::Global;
 /// The table that all sessions share, with its memory. Threads share its field `shared`.
 pub type SharedTable<T> = Table<Kept<T>, View<T>, TableSizes, LockTableRule, Global>;
 
-// All words of the table of `sizes`, before the first step: those of lightweight locks are free, and all others 0.
+// All words of the table of `sizes`, before the first step: those of lightweight locks are free, and all
+// others 0.
 fn first_words(alloc: Global, sizes: TableSizes) -> Result<Vec<u64>, NoMemory>
     requires some { 0 < sizes.groups }
     ensures shown { IfOk result (λ words. WordsAreShown sizes words.items (opening 0 0).words) }
@@ -70,8 +71,9 @@ fn next_list<T: PartTable>(alloc: Global, index: usize, sessions: u16) -> Result
     }
 }
 
-/// The shelves of the table with `parts`, the sixteen partitions, each on its own (`content_shelf`), and with the wait lists of the lightweight locks of
-/// `sessions` sessions, each list with room for all sessions. Where memory, by `alloc`, runs out `parts` are let go.
+/// The shelves of the table with `parts`, the sixteen partitions, each on its own (`content_shelf`), and with
+/// the wait lists of the lightweight locks of `sessions` sessions, each list with room for all sessions.
+/// Where memory, by `alloc`, runs out `parts` are let go.
 pub fn in_shelves<T: PartTable + Drop>(
     alloc: Global,
     mut parts: Vec<T>,
@@ -92,8 +94,9 @@ pub fn in_shelves<T: PartTable + Drop>(
     Ok(shelves)
 }
 
-/// Makes the table of `sizes`, and the opener at it (`InitProcGlobal` in proc.c, `InitLocks` in lock.c). `parts` come each on its shelf of the table, as
-/// `in_shelves` puts them. Where memory, by `alloc`, runs out `parts` come back.
+/// Makes the table of `sizes`, and the opener at it (`InitProcGlobal` in proc.c, `InitLocks` in lock.c).
+/// `parts` come each on its shelf of the table, as `in_shelves` puts them. Where memory, by `alloc`, runs out
+/// `parts` come back.
 pub fn open<T: PartTable>(
     alloc: Global,
     sizes: &TableSizes,

@@ -1,5 +1,5 @@
-//! The steps of a session on wait words: its own, by which it learns that its wait was granted or is to be cancelled,
-//! and those of others whom it tells so.
+//! The steps of a session on wait words: its own, by which it learns that its wait was granted or is to be
+//! cancelled, and those of others whom it tells so.
 
 ghost use Rattle.std.specs.Prelude.{◌≡◌, ◌<◌, None, [], List, map};
 ghost use Rattle.lock_world.specs.Account.{InHand};
@@ -27,8 +27,8 @@ use modes_core::{Mode, SessionId, Tag};
 /// What a grant adds to the wait word of the session that waits.
 const GRANT: u64 = WaitState::Granted as u64 - WaitState::Waiting as u64;
 
-/// Stores in the wait word of the session `number`, its own, that it waits for `mode` on `tag`, with its join made
-/// in `content` in hand (`ProcSleep` in proc.c sets `waitStatus` so).
+/// Stores in the wait word of the session `number`, its own, that it waits for `mode` on `tag`, with its join
+/// made in `content` in hand (`ProcSleep` in proc.c sets `waitStatus` so).
 pub(crate) fn set_waiting<T: PartTable, M: Marking<T>>(
     words: &SharedWords<T>,
     seat: &mut Seat<T>,
@@ -50,8 +50,9 @@ pub(crate) fn set_waiting<T: PartTable, M: Marking<T>>(
     store_as::<T, M>(words, seat, wait_word(number), WaitState::Waiting as u64);
 }
 
-/// Marks the wait of `other` granted, one of the sessions in `woken`, whose waits the move `done` grants in `content`, that of partition `part` (`ProcWakeup`
-/// in proc.c sets `waitStatus`; the waiter's own side is `GrantAwaitedLock` in lock.c).
+/// Marks the wait of `other` granted, one of the sessions in `woken`, whose waits the move `done` grants in
+/// `content`, that of partition `part` (`ProcWakeup` in proc.c sets `waitStatus`; the waiter's own side is
+/// `GrantAwaitedLock` in lock.c).
 pub(crate) fn mark_granted<T: PartTable, M: Marking<T>>(
     words: &SharedWords<T>,
     seat: &mut Seat<T>,
@@ -81,7 +82,8 @@ pub(crate) fn mark_granted<T: PartTable, M: Marking<T>>(
     fetch_add_as::<T, M>(words, seat, wait_word(other), GRANT);
 }
 
-/// Loads the wait word of the session `number`, its own (`waitStatus` in proc.h, as `ProcSleep` in proc.c reads it).
+/// Loads the wait word of the session `number`, its own (`waitStatus` in proc.h, as `ProcSleep` in proc.c
+/// reads it).
 pub(crate) fn load_wait<T: PartTable, M: Marking<T>>(
     words: &SharedWords<T>,
     seat: &mut Seat<T>,
@@ -117,8 +119,8 @@ pub(crate) fn ask_cancel<T: PartTable, M: Marking<T>>(
     fetch_or_as::<T, M>(words, seat, wait_word(other), CANCEL_ASKED)
 }
 
-/// Calls `other`, which may be parked on its wait word (`SetLatch` in `ProcWakeup` of proc.c). The session looks at that word right before the call, so that
-/// its history notes the call.
+/// Calls `other`, which may be parked on its wait word (`SetLatch` in `ProcWakeup` of proc.c). The session
+/// looks at that word right before the call, so that its history notes the call.
 pub(crate) fn call_waiter<T: PartTable, M: Marking<T>>(
     words: &SharedWords<T>,
     seat: &mut Seat<T>,
@@ -135,8 +137,8 @@ pub(crate) fn call_waiter<T: PartTable, M: Marking<T>>(
     words.wake_one(wait_word(other));
 }
 
-/// Clears the wait word of the session `number`, its own: the wait is over, since the grant was seen or the wait is
-/// gone from the content in hand.
+/// Clears the wait word of the session `number`, its own: the wait is over, since the grant was seen or the
+/// wait is gone from the content in hand.
 pub(crate) fn clear_wait<T: PartTable, M: Marking<T>>(
     words: &SharedWords<T>,
     seat: &mut Seat<T>,
@@ -154,8 +156,9 @@ pub(crate) fn clear_wait<T: PartTable, M: Marking<T>>(
     store_as::<T, M>(words, seat, wait_word(number), WaitState::NotWaiting as u64);
 }
 
-/// Clears the wait word of the session `number`, its own, and records that the wait was taken out of the queue of `content` in hand, which granted the waits
-/// of the sessions in `woken` (`RemoveFromWaitQueue` in lock.c).
+/// Clears the wait word of the session `number`, its own, and records that the wait was taken out of the
+/// queue of `content` in hand, which granted the waits of the sessions in `woken` (`RemoveFromWaitQueue` in
+/// lock.c).
 pub(crate) fn leave_queue<T: PartTable, M: Marking<T>>(
     words: &SharedWords<T>,
     seat: &mut Seat<T>,

@@ -72,7 +72,8 @@ fn set_release_ok_if<T: PartTable>(
     set_release_ok::<T, Brand>(words, seat, lock);
 }
 
-// Puts the list home after a wakeup, with has-waiters where somebody is left, and release-ok as the wakeup says.
+// Puts the list home after a wakeup, with has-waiters where somebody is left, and release-ok as the wakeup
+// says.
 fn unlock_after_wakeup<T: PartTable>(
     words: &SharedWords<T>,
     seat: &mut Seat<T>,
@@ -99,9 +100,10 @@ fn unlock_after_wakeup<T: PartTable>(
     unlock_list(words, seat, lock, list, some_left, release_ok);
 }
 
-/// Wakes the first sessions in the wait list of `lock`: one that wants the lock exclusively, or those that want to share it, as many as go at a time
-/// (`LWLockWakeup` in lwlock.c). Where another session has the list, the waking is left to it: a session that has a list in hand attempts the lock
-/// afterwards, holds it, or has taken somebody off.
+/// Wakes the first sessions in the wait list of `lock`: one that wants the lock exclusively, or those that
+/// want to share it, as many as go at a time (`LWLockWakeup` in lwlock.c). Where another session has the
+/// list, the waking is left to it: a session that has a list in hand attempts the lock afterwards, holds it,
+/// or has taken somebody off.
 #[cold]
 #[inline(never)]
 pub(crate) fn wake_waiters<T: PartTable>(words: &SharedWords<T>, seat: &mut Seat<T>, lock: &LwLock)

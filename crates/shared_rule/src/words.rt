@@ -1,6 +1,6 @@
-//! The eight operations on one word of the table that all steps are made of. Each is one atomic operation, made by a
-//! seat that has the session's history first in its view, and leaves a mark there; what the mark does to the session's
-//! account is in `noted` of specs/History.
+//! The eight operations on one word of the table that all steps are made of. Each is one atomic operation,
+//! made by a seat that has the session's history first in its view, and leaves a mark there; what the mark
+//! does to the session's account is in `noted` of specs/History.
 
 ghost use Rattle.std.specs.Prelude.{ℕ, ◌≡◌, ◌<◌, ◌+◌, ◌-◌, ◌^◌, ◌%◌, Some, bit_and, bit_or};
 ghost use mathlib.Core.Option.{none};

@@ -13,7 +13,8 @@ use Rattle.wait_queue.specs.declared.requests.Kind.TheVariants.{Conditional, Wai
 use Rattle.wait_queue.specs.declared.requests.Decision.{Decision}
 use Rattle.wait_queue.specs.declared.requests.Decision.TheVariants.{Granted, Queued}
 
--- The answer to a request of this kind: a conditional one is granted where it clashes with nothing, and else refused.
+-- The answer to a request of this kind: a conditional one is granted where it clashes with nothing, and else
+-- refused.
 abbrev pub AnswerIs : Kind → Content → ℕ → Tag → Mode → Answer → Type 0
 AnswerIs Conditional content session tag mode answer.Granted = ClashIs content session tag mode None
 AnswerIs Conditional content session tag mode _ = ⊥
@@ -26,7 +27,8 @@ IsDecided kind before session tag mode Granted after =
 IsDecided kind before session tag mode Queued after =
     (place : ℕ) × AnswerIs kind before session tag mode (answer.Queued place) × (after ≡ add_wait before session tag mode place)
 
--- A conditional request is refused with what it clashes with, one that may wait by its answer; or memory ran out.
+-- A conditional request is refused with what it clashes with, one that may wait by its answer; or memory ran
+-- out.
 abbrev pub RefusedFor : Kind → Content → ℕ → Tag → Mode → Refusal → Type 0
 RefusedFor Conditional content session tag mode (Conflict other its how) =
     ClashIs content session tag mode (Some (record { session = other; mode = its; how = how }))

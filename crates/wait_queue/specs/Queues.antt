@@ -21,8 +21,8 @@ abbrev pub by_modes : ℕ → (Mode → Bool) → (Mode → Bool) → List Block
 by_modes other held against =
     flat_map (λ its. if held its && against its then record { session = other; mode = its; how = Held } ∷ [] else []) all_modes
 
--- another session is in the way by each mode of the object that it holds and that conflicts with the awaited one; nobody is in
--- its own way
+-- another session is in the way by each mode of the object that it holds and that conflicts with the awaited
+-- one; nobody is in its own way
 abbrev pub holding_of : Content → Tag → ℕ → Mode → ℕ → List Blocker
 holding_of content tag session mode other =
     if other == session then [] else by_modes other (content.holds other tag) (conflict mode)

@@ -1,4 +1,5 @@
-//! What an object's queue has in it, and who is in the way of one that waits there. Each function here only reads.
+//! What an object's queue has in it, and who is in the way of one that waits there. Each function here only
+//! reads.
 
 ghost use Rattle.std.specs.Prelude.{◌≡◌, ◌≤◌, ◌&&◌, ◌∷◌, ◌++◌, [], true, if◌then◌else◌, length, map, take, option_map, Some, None, IfOk, IfSome, IfNone, OnOk};
 ghost use Rattle.modes_core.specs.ModeSet.{set_has};
@@ -16,14 +17,16 @@ use std::alloc::Global;
 pub struct Blocker {
     /// The session that is in the way of a waiting session.
     pub session: SessionId,
-    /// The mode that the session in the way holds or awaits, in conflict with the one that the waiting session awaits.
+    /// The mode that the session in the way holds or awaits, in conflict with the one that the waiting
+    /// session awaits.
     pub mode: Mode,
-    /// Whether the session in the way holds the conflicting mode, or awaits it before the waiting session in the queue.
+    /// Whether the session in the way holds the conflicting mode, or awaits it before the waiting session in
+    /// the queue.
     pub how: How,
 }
 
-/// The waits on `tag` in the content of `part`, in the order of the object's queue. Refused only where memory for the
-/// list, by `alloc`, ran out.
+/// The waits on `tag` in the content of `part`, in the order of the object's queue. Refused only where memory
+/// for the list, by `alloc`, ran out.
 pub fn queue_of<P: PartTable>(alloc: Global, part: &P, tag: &Tag) -> Result<Vec<Waiter>, NoMemory>
     ensures whole { IfOk result (λ rows. map shown_wait rows.items ≡ (P.content part.now).waits tag.now) }
 {
@@ -34,10 +37,10 @@ pub fn queue_of<P: PartTable>(alloc: Global, part: &P, tag: &Tag) -> Result<Vec<
     Ok(rows)
 }
 
-/// The sessions in the way of the wait of `session` on `tag` in the content of `part` (`GetBlockerStatusData` in lock.c, for
-/// `pg_blocking_pids`): sessions that hold a mode in conflict with the awaited one, by session and mode, and then those that
-/// await such a mode before `session` in the queue. Nobody where `session` doesn't wait on `tag`. Refused only where memory ran
-/// out.
+/// The sessions in the way of the wait of `session` on `tag` in the content of `part` (`GetBlockerStatusData`
+/// in lock.c, for `pg_blocking_pids`): sessions that hold a mode in conflict with the awaited one, by session
+/// and mode, and then those that await such a mode before `session` in the queue. Nobody where `session`
+/// doesn't wait on `tag`. Refused only where memory ran out.
 pub fn blockers_of<P: PartTable>(
     alloc: Global,
     part: &P,
@@ -55,8 +58,8 @@ pub fn blockers_of<P: PartTable>(
     Ok(found)
 }
 
-/// The place of `session` in the queue of `tag` in `part`, counted from the front, and the mode that `session` awaits on `tag`,
-/// or `None` where it doesn't wait there.
+/// The place of `session` in the queue of `tag` in `part`, counted from the front, and the mode that
+/// `session` awaits on `tag`, or `None` where it doesn't wait there.
 fn wait_of<P: PartTable>(part: &P, tag: &Tag, session: SessionId) -> Option<(usize, Mode)>
     ensures none { IfNone result (wait_in ((P.content part.now).waits tag.now) session ≡ None) }
     ensures mode { IfSome result (λ found.
@@ -75,8 +78,8 @@ fn wait_of<P: PartTable>(part: &P, tag: &Tag, session: SessionId) -> Option<(usi
     None
 }
 
-/// Appends to `found` the sessions other than `session` that hold `tag` in `part` in a mode in conflict with `mode`,
-/// which `session` awaits.
+/// Appends to `found` the sessions other than `session` that hold `tag` in `part` in a mode in conflict with
+/// `mode`, which `session` awaits.
 fn append_holding<P: PartTable>(
     part: &P,
     tag: &Tag,
@@ -94,8 +97,8 @@ fn append_holding<P: PartTable>(
     Ok(())
 }
 
-/// Appends `other` to `found` once for each mode in which it holds `tag` in `part` in conflict with `mode`, unless `other` is
-/// `session`.
+/// Appends `other` to `found` once for each mode in which it holds `tag` in `part` in conflict with `mode`,
+/// unless `other` is `session`.
 fn append_holding_of<P: PartTable>(
     part: &P,
     tag: &Tag,
@@ -113,7 +116,8 @@ fn append_holding_of<P: PartTable>(
     append_modes(other, part.held(other, tag), conflicts(mode), found)
 }
 
-/// Appends `other` to `found` as a holder, once for each mode that is in `held` and in `against`, in the order of the modes' numbers.
+/// Appends `other` to `found` as a holder, once for each mode that is in `held` and in `against`, in the
+/// order of the modes' numbers.
 fn append_modes(
     other: SessionId,
     held: ModeSet,
@@ -154,8 +158,8 @@ fn append_mode(
     Ok(())
 }
 
-/// Appends to `found` the waiters before `place` in the queue of `tag` in `part` that await a mode in conflict with
-/// `mode`.
+/// Appends to `found` the waiters before `place` in the queue of `tag` in `part` that await a mode in
+/// conflict with `mode`.
 fn append_standing<P: PartTable>(
     part: &P,
     tag: &Tag,

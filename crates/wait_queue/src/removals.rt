@@ -8,9 +8,10 @@ ghost use Rattle.lock_table.specs.Waiter.{whose_and_mode};
 use lock_table::PartTable;
 use modes_core::{SessionId, Tag};
 
-/// Takes the wait of `session` out of the queue of `tag` in `part`, if `session` still waits there, and grants the waits that
-/// are then free to go (`RemoveFromWaitQueue` in lock.c, for `LockErrorCleanup` in proc.c): `PartTable::woken` has whose waits
-/// these are. The answer is whether the wait of `session` had been granted already, so that there was no wait to take out.
+/// Takes the wait of `session` out of the queue of `tag` in `part`, if `session` still waits there, and
+/// grants the waits that are then free to go (`RemoveFromWaitQueue` in lock.c, for `LockErrorCleanup` in
+/// proc.c): `PartTable::woken` has whose waits these are. The answer is whether the wait of `session` had
+/// been granted already, so that there was no wait to take out.
 pub fn remove_waiter<P: PartTable>(part: &mut P, session: SessionId, tag: &Tag) -> bool
     ensures found { result ≡ not (waits_there ((P.content part.old).waits tag.now) session) }
     ensures removed { OnFalse result ((granted : List Wait)

@@ -24,11 +24,11 @@ pub enum Decision {
     Queued,
 }
 
-/// Decides the request of `session` for `tag` in `mode`, which `session` neither holds nor awaits (`LockAcquireExtended` in
-/// lock.c, with `ProcSleep` in proc.c). Where nothing in `part` is in the way, the request is granted. Otherwise `kind` says
-/// whether it is refused with what is in the way, or answered by its place in the queue. After `NoMemory`, as after each
-/// refusal, the content of `part` is as before. Room for the request is made first, so that each other refusal comes only where
-/// there was memory.
+/// Decides the request of `session` for `tag` in `mode`, which `session` neither holds nor awaits
+/// (`LockAcquireExtended` in lock.c, with `ProcSleep` in proc.c). Where nothing in `part` is in the way, the
+/// request is granted. Otherwise `kind` says whether it is refused with what is in the way, or answered by
+/// its place in the queue. After `NoMemory`, as after each refusal, the content of `part` is as before. Room
+/// for the request is made first, so that each other refusal comes only where there was memory.
 #[inline(always)]
 pub fn decide<P: PartTable>(
     part: &mut P,
@@ -56,8 +56,8 @@ pub fn decide<P: PartTable>(
     decide_begun(part, session, tag, mode, kind)
 }
 
-/// Decides the request of `session` for `tag` in `mode`, of kind `kind`, that is begun in `part`, with the room that was made
-/// for the request: no memory is taken.
+/// Decides the request of `session` for `tag` in `mode`, of kind `kind`, that is begun in `part`, with the
+/// room that was made for the request: no memory is taken.
 #[inline(always)]
 fn decide_begun<P: PartTable>(
     part: &mut P,
@@ -100,9 +100,9 @@ fn decide_begun<P: PartTable>(
     }
 }
 
-/// Ends the begun request of `session` for `tag` in `mode`, which something in `part` is in the way of, by its place in the
-/// queue: the request is granted, queued, or withdrawn, since `session` and the session that the error names would wait for one
-/// another. No memory is taken.
+/// Ends the begun request of `session` for `tag` in `mode`, which something in `part` is in the way of, by
+/// its place in the queue: the request is granted, queued, or withdrawn, since `session` and the session that
+/// the error names would wait for one another. No memory is taken.
 #[inline(never)]
 fn end_by_place<P: PartTable>(
     part: &mut P,

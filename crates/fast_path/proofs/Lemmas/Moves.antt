@@ -186,8 +186,8 @@ gone-skips n m below b next none =
 
 -- ---- a turn of the loop
 
--- How far the loop over the modes has come: those below this number are moved, and the slot shows the word that is
--- left.
+-- How far the loop over the modes has come: those below this number are moved, and the slot shows the word
+-- that is left.
 pub record IsMoving (a : Account) (owner slot word : ℕ) (tag : Tag) (taken : Content) (below left : ℕ)
     (now : Content) (b : Account) : Type 0 where
   pub moves : MovesBelow a owner slot word tag taken below now b

@@ -13,8 +13,8 @@ use Rattle.fast_path.proofs.Lemmas.Sights.{below-more, counted-more, counted-sam
 
 -- Looking through a group's slots from the highest-numbered one down, as far as a grant does.
 
--- The numbers below `limit` that pass are those that pass below `rest`, and those that pass among the last `seen`, counted down
--- from the highest.
+-- The numbers below `limit` that pass are those that pass below `rest`, and those that pass among the last
+-- `seen`, counted down from the highest.
 counted-down :
     (limit : ℕ) (test down : ℕ → Bool) → ((k j : ℕ) → k + j + 1 ≡ limit → down k ≡ test j)
     → (seen rest : ℕ) → rest + seen ≡ limit → how_many limit test ≡ how_many rest test + how_many seen down

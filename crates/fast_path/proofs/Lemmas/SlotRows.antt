@@ -158,7 +158,8 @@ rows_below-past limit (suc more) rows none =
     ∙ append-nil (rows_below (limit + more) rows)
     ∙ rows_below-past limit more rows (λ k from below. none k from (omega (arith, below)))
 
--- The rows of the slots of `groups` groups are those of all slots, where each in use is of its relation's group.
+-- The rows of the slots of `groups` groups are those of all slots, where each in use is of its relation's
+-- group.
 pub rows-of_groups :
     (groups session database : ℕ) (words : ℕ → ℕ) → 0 < groups → groups ≤ most_groups → AreInGroups groups words
     → rows_below (group_size * groups) (λ slot. rows_of_slot session database slot (words slot))

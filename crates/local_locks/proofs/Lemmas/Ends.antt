@@ -171,7 +171,8 @@ present-same [] (y ∷ b) same = present-same [] b (λ k. same (suc k)) ∙ ap (
 present-same (x ∷ a) [] same = ap (λ o. cons_option o (present a)) (same zero) ∙ present-same a [] (λ k. same (suc k))
 present-same (x ∷ a) (y ∷ b) same = λ i. cons_option (same zero i) (present-same a b (λ k. same (suc k)) i)
 
--- The end kept each entry before a place, where the first one was that it took away, and has left those after it.
+-- The end kept each entry before a place, where the first one was that it took away, and has left those after
+-- it.
 pub record Stopped (end : End) (old new : Slots) (place : ℕ) (e : Entry) : Type 0 where
   pub kept : (k : ℕ) → k < place → IfSome (slot_at old k) (λ x. is_ended end x ≡ false)
   pub settled : (k : ℕ) → k < place → slot_at new k ≡ option_map (after_end end) (slot_at old k)

@@ -75,7 +75,8 @@ has_entry-with_one_more entries tag mode owner t m =
       there true b = refl
       there false b = refl
 
--- After one release the object and mode have an entry only where their total was not 1, and the others have one as before.
+-- After one release the object and mode have an entry only where their total was not 1, and the others have
+-- one as before.
 pub has_entry-with_one_less :
     (entries : List Entry) (tag : Tag) (mode : Mode) (owner : Owner) (t : Tag) (m : Mode) →
     has_entry (with_one_less entries tag mode owner) t m ≡

@@ -13,9 +13,9 @@ use crate::{Acquired, AtOnce, Entry};
 use modes_core::{Mode, Owner, Refusal, Tag};
 
 impl LocalTable {
-    /// Counts `tag` in `mode` once more for `owner`, if the session has it already, and answers whether the session
-    /// has it, in one look (`LockAcquireExtended` in lock.c where it finds a local lock with `nLocks` above 0).
-    /// Refused where the count of `owner` is full; nothing has changed then.
+    /// Counts `tag` in `mode` once more for `owner`, if the session has it already, and answers whether the
+    /// session has it, in one look (`LockAcquireExtended` in lock.c where it finds a local lock with `nLocks`
+    /// above 0). Refused where the count of `owner` is full; nothing has changed then.
     #[inline(always)]
     pub fn add_held(&mut self, tag: &Tag, mode: Mode, owner: Owner) -> Result<bool, Refusal>
         ensures held { (result ≡ Ok true) ↔ ((has_entry self.old.entries tag.now mode ≡ true)
@@ -39,9 +39,9 @@ impl LocalTable {
         }
     }
 
-    /// Does the work of `add_held` for `tag`, `mode` and `owner` as far as the first place of the index shows whether
-    /// `tag` is held in `mode`, as it mostly does. `AtOnce::Unknown` says nothing of that and leaves all as it is.
-    /// With neither a loop nor a call, this is short enough to be inlined into each caller.
+    /// Does the work of `add_held` for `tag`, `mode` and `owner` as far as the first place of the index shows
+    /// whether `tag` is held in `mode`, as it mostly does. `AtOnce::Unknown` says nothing of that and leaves
+    /// all as it is. With neither a loop nor a call, this is short enough to be inlined into each caller.
     #[inline(always)]
     pub fn add_at_once(&mut self, tag: &Tag, mode: Mode, owner: Owner) -> AtOnce
         ensures held { result ≡ AtOnce.AlreadyHeld → (has_entry self.old.entries tag.now mode ≡ true)
@@ -71,8 +71,8 @@ impl LocalTable {
         }
     }
 
-    /// Does the work of `add_held` for `tag`, `mode` and `owner` by a whole look. To the compiler it is cold, so
-    /// that what goes on without it runs straight on.
+    /// Does the work of `add_held` for `tag`, `mode` and `owner` by a whole look. To the compiler it is cold,
+    /// so that what goes on without it runs straight on.
     #[cold]
     #[inline(never)]
     fn add_looked_up(&mut self, tag: &Tag, mode: Mode, owner: Owner) -> Result<bool, Refusal>
@@ -104,8 +104,8 @@ impl LocalTable {
         Ok(true)
     }
 
-    /// Makes room for one more acquire of `tag` in `mode` by `owner`, for `add` to enter. Refused where the count of
-    /// `owner` or the table is full, or memory ran out. The entries don't change.
+    /// Makes room for one more acquire of `tag` in `mode` by `owner`, for `add` to enter. Refused where the
+    /// count of `owner` or the table is full, or memory ran out. The entries don't change.
     pub fn reserve(&mut self, tag: Tag, mode: Mode, owner: Owner) -> Result<(), Refusal>
         ensures ok { OnOk result (IsReserved self.new tag mode owner) }
 
@@ -140,8 +140,8 @@ impl LocalTable {
         }
     }
 
-    /// Makes room for one more entry, for `add_new` to enter. Does what `reserve` does, without a look, for an object
-    /// and mode of which `add_held` answered that the session hasn't them.
+    /// Makes room for one more entry, for `add_new` to enter. Does what `reserve` does, without a look, for
+    /// an object and mode of which `add_held` answered that the session hasn't them.
     #[inline(always)]
     pub fn reserve_new(&mut self) -> Result<(), Refusal>
         ensures allowed { OnOk result (length self.new.entries < self.new.max_local) }
@@ -169,7 +169,8 @@ impl LocalTable {
         self.make_room()
     }
 
-    /// Whether one more entry is allowed and there is room for it, so that `reserve_new` would neither refuse nor grow.
+    /// Whether one more entry is allowed and there is room for it, so that `reserve_new` would neither refuse
+    /// nor grow.
     #[inline(always)]
     pub fn can_add(&self) -> bool
         ensures can { IsTrue result ↔ ((length self.now.entries < self.now.max_local) × (0 < self.now.room)) }
@@ -187,8 +188,8 @@ impl LocalTable {
         used < self.slots.capacity() && used < self.index.places()
     }
 
-    /// Makes room for one more entry: uses slots again whose entries are gone, and lets the table grow only where
-    /// more than half of all slots have entries.
+    /// Makes room for one more entry: uses slots again whose entries are gone, and lets the table grow only
+    /// where more than half of all slots have entries.
     #[cold]
     #[inline(never)]
     fn make_room(&mut self) -> Result<(), Refusal>
@@ -240,8 +241,8 @@ impl LocalTable {
         Ok(())
     }
 
-    /// Moves the entries down over the empty slots, so that these can be used again, where no more than half of the
-    /// slots used so far have entries.
+    /// Moves the entries down over the empty slots, so that these can be used again, where no more than half
+    /// of the slots used so far have entries.
     fn use_slots_again(&mut self)
         ensures used { self.new.room ≡ 0 → IsCrowded self.old.slots self.old.entries }
         ensures slots { self.new.slots ≡ self.old.slots }
@@ -259,7 +260,8 @@ impl LocalTable {
         }
     }
 
-    /// Enters the acquire of `tag` in `mode` by `owner`, for which room was reserved (`GrantLockLocal` in lock.c).
+    /// Enters the acquire of `tag` in `mode` by `owner`, for which room was reserved (`GrantLockLocal` in
+    /// lock.c).
     pub fn add(&mut self, tag: Tag, mode: Mode, owner: Owner) -> Acquired
         requires { IsReserved self.old tag mode owner }
         ensures answer { result ≡ acquired_as self.old.entries tag mode }
@@ -280,8 +282,8 @@ impl LocalTable {
         }
     }
 
-    /// Enters the first acquire of `tag` in `mode` by `owner`, for which room was reserved, with no look for an entry
-    /// (`GrantLockLocal` in lock.c after `LockAcquireExtended` made the entry).
+    /// Enters the first acquire of `tag` in `mode` by `owner`, for which room was reserved, with no look for
+    /// an entry (`GrantLockLocal` in lock.c after `LockAcquireExtended` made the entry).
     #[inline(always)]
     pub fn add_new(&mut self, tag: &Tag, mode: Mode, owner: Owner)
         requires new { has_entry self.old.entries tag.now mode ≡ false }
@@ -303,8 +305,8 @@ impl LocalTable {
         }
     }
 
-    /// Does the work of `add_new` for any `tag`, `mode` and `owner`: a call of its own, so that where `tag` is a
-    /// relation `add_new` copies only its two numbers.
+    /// Does the work of `add_new` for any `tag`, `mode` and `owner`: a call of its own, so that where `tag`
+    /// is a relation `add_new` copies only its two numbers.
     #[inline(never)]
     fn add_new_object(&mut self, tag: &Tag, mode: Mode, owner: Owner)
         requires new { has_entry self.old.entries tag.now mode ≡ false }
@@ -320,7 +322,8 @@ impl LocalTable {
         self.enter(*tag, key_hash(tag, mode), mode, owner);
     }
 
-    /// Does the work of `add_new` for `tag`, `mode` and `owner` where `hash`, the hash of `tag` and `mode`, is known.
+    /// Does the work of `add_new` for `tag`, `mode` and `owner` where `hash`, the hash of `tag` and `mode`,
+    /// is known.
     #[inline(always)]
     fn enter(&mut self, tag: Tag, hash: u32, mode: Mode, owner: Owner)
         requires hashed { hash ≡ key_hash tag mode }

@@ -11,9 +11,9 @@ use crate::slots::{lower, lower_held, take_last, take_out};
 use modes_core::{Mode, Owner, Refusal, Tag};
 
 impl LocalTable {
-    /// Takes one count of `owner` on `tag` in `mode` back (the part of `LockRelease` in lock.c that touches the local
-    /// lock alone) and answers whether the session still has the mode. Refused where `owner` has no count that it can
-    /// give back; nothing has changed then.
+    /// Takes one count of `owner` on `tag` in `mode` back (the part of `LockRelease` in lock.c that touches
+    /// the local lock alone) and answers whether the session still has the mode. Refused where `owner` has no
+    /// count that it can give back; nothing has changed then.
     pub fn drop_one(&mut self, tag: Tag, mode: Mode, owner: Owner) -> Result<Unlocked, Refusal>
         ensures not_held { IsErrOf result Refusal.NotHeld ↔ (own_count_of self.old tag mode owner ≡ 0) }
         ensures no_other { IsOkUnless result Refusal.NotHeld }
@@ -52,9 +52,9 @@ impl LocalTable {
         }
     }
 
-    /// Does the work of `drop_held` for `tag`, `mode` and `owner` where the slot that is looked at first has their
-    /// entry, as it mostly has. `None` says nothing of the entry and leaves all as it is. With neither a loop nor a
-    /// call, this is short enough to be inlined into each caller.
+    /// Does the work of `drop_held` for `tag`, `mode` and `owner` where the slot that is looked at first has
+    /// their entry, as it mostly has. `None` says nothing of the entry and leaves all as it is. With neither
+    /// a loop nor a call, this is short enough to be inlined into each caller.
     #[inline(always)]
     pub fn drop_at_once(&mut self, tag: &Tag, mode: Mode, owner: Owner) -> Option<Unlocked>
         ensures held { IsSome result → 0 < own_count_of self.old tag.now mode owner }
@@ -87,8 +87,8 @@ impl LocalTable {
         Some(Unlocked::Released)
     }
 
-    /// Does the work of `drop_held` for `tag`, `mode` and `owner`, wherever their entry is and whatever its counts
-    /// are. To the compiler it is cold, so that what goes on without it runs straight on.
+    /// Does the work of `drop_held` for `tag`, `mode` and `owner`, wherever their entry is and whatever its
+    /// counts are. To the compiler it is cold, so that what goes on without it runs straight on.
     #[cold]
     #[inline(never)]
     fn drop_elsewhere(&mut self, tag: &Tag, mode: Mode, owner: Owner) -> Result<Unlocked, Refusal>

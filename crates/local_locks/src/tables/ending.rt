@@ -1,4 +1,5 @@
-//! The ends of a level, of the transaction and of the session: what each takes away, one object and mode at a time.
+//! The ends of a level, of the transaction and of the session: what each takes away, one object and mode at a
+//! time.
 
 ghost use Rattle.std.specs.Prelude.{◌≡◌, ◌≢◌, ◌<◌, ◌≤◌, ◌∷◌, [], IfSome, IfNone, IsSome};
 ghost use Rattle.local_locks.specs.Owned.{level_of, without_innermost, found_by, outer_after, ended_by, left_by, with_next_ended, IsWellOwned};
@@ -11,9 +12,10 @@ use crate::slots::{settle, settle_inner, take_ended, tidy};
 use modes_core::{Mode, Tag};
 
 impl LocalTable {
-    /// Goes on with `end`: answers the next object and mode, in the order of making, that `end` takes away from the
-    /// session, or `None` once there is no other (the loop of `LockReleaseAll` in lock.c). The step that answers
-    /// `None` ends the innermost level of the transaction, or all levels where `end` is not `End::Inner`.
+    /// Goes on with `end`: answers the next object and mode, in the order of making, that `end` takes away
+    /// from the session, or `None` once there is no other (the loop of `LockReleaseAll` in lock.c). The step
+    /// that answers `None` ends the innermost level of the transaction, or all levels where `end` is not
+    /// `End::Inner`.
     #[inline(always)]
     pub fn end_next(&mut self, end: End) -> Option<(Tag, Mode)>
         requires nested { end ≡ End.Inner → 1 < level_of self.old }
@@ -26,8 +28,8 @@ impl LocalTable {
         ensures left { IfNone result (self.new.entries ≡ left_by end (found_by end self.old)) }
         ensures outlives { IsSome result → left_by end (found_by end self.new) ≡ left_by end (found_by end self.old) }
 
-        // The outer levels have what they had where only the innermost ends. Each has ended whose end it was once
-        // it gives `None`.
+        // The outer levels have what they had where only the innermost ends. Each has ended whose end it was
+        // once it gives `None`.
         ensures inner { IsSome result → end ≡ End.Inner → self.new.outer ≡ self.old.outer }
         ensures level { IsSome result → level_of self.new ≡ level_of self.old }
         ensures ended { IfNone result (self.new.outer ≡ outer_after end self.old.outer) }
@@ -43,8 +45,8 @@ impl LocalTable {
         }
     }
 
-    /// Goes on with `end`, of the transaction or of the session: answers the next object and mode that `end` takes
-    /// away, or `None` once there is no other.
+    /// Goes on with `end`, of the transaction or of the session: answers the next object and mode that `end`
+    /// takes away, or `None` once there is no other.
     #[inline(always)]
     fn end_transaction(&mut self, end: End) -> Option<(Tag, Mode)>
         requires whole { end ≢ End.Inner }
@@ -85,8 +87,8 @@ impl LocalTable {
         Some(key)
     }
 
-    /// Goes on with the end of the innermost level of the transaction (`LockReleaseCurrentOwner` in lock.c): answers
-    /// the next object and mode that this end takes away, or `None` once there is no other.
+    /// Goes on with the end of the innermost level of the transaction (`LockReleaseCurrentOwner` in lock.c):
+    /// answers the next object and mode that this end takes away, or `None` once there is no other.
     #[cold]
     #[inline(never)]
     fn end_innermost(&mut self) -> Option<(Tag, Mode)>

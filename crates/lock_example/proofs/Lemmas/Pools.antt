@@ -1,7 +1,7 @@
 use Rattle.std.proofs.Common.{◌≡◌, ◌+◌, ◌≤◌, ℕ, List, length}
 
--- What loops keep that take sessions from a pool at a desk: which manager the desk is of, how many of its sessions are open, and which of
--- them are free in the pool, each before the loop and now.
+-- What loops keep that take sessions from a pool at a desk: which manager the desk is of, how many of its
+-- sessions are open, and which of them are free in the pool, each before the loop and now.
 module _ {M S : Type 0} (Own : M → List S → Type 0) (manager_before manager_now : M) (live_before live_now : ℕ) (before now : List S) where
   -- All sessions that were taken are back.
   abbrev pub AllAreBack : Type 0

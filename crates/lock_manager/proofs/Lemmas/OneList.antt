@@ -62,7 +62,8 @@ answered kind w s t m taken put (Ok decision.Queued) alike cleared decided refus
     (decided.0, answered-alike kind w s t m taken (answer.Queued decided.0) alike cleared decided.1)
 answered kind w s t m taken put (Err refusal) alike cleared decided refused = refused-alike kind w s t m taken refusal alike cleared refused
 
--- A session whose account has gone on from a request that was decided in the table, where the table keeps its rule.
+-- A session whose account has gone on from a request that was decided in the table, where the table keeps its
+-- rule.
 module _ {T : Type 0} (content : T → Content) (begun : T → Option Request) (sizes : TableSizes) (state : State (Kept T) (View T)) (rule : Ruled content begun sizes state)
     (history : History T) (stands : StandsAtSeat state.views history) (kind : Kind) (seat : Seated) (a b : Account) (uses left : UseCounts) (tag : Tag) (mode : Mode)
     (result : Result Decision Refusal) (same : seat.number ≡ history.number) (decides : Decides kind seat a uses tag mode result b left) (after : List TraceEntry)
@@ -75,7 +76,8 @@ module _ {T : Type 0} (content : T → Content) (begun : T → Option Request) (
       ∙ ap (λ (t : List TraceEntry). t ++ after) decides.trace
       ∙ append_assoc (a.trace ++ decides.steps) (Took (partition_of tag) decides.taken ∷ Episode (partition_of tag) decides.taken decides.put ∷ []) after
 
-  -- In a World on the way, in which it had made just the steps before the episode, the partition had the content that was taken.
+  -- In a World on the way, in which it had made just the steps before the episode, the partition had the
+  -- content that was taken.
   pub decided-in_world : (P : World → Type 0) → ((w : World) → SafeWorld w → decides.taken ≡ w.contents.now (partition_of tag) → P w)
       → (run : Runs (opening sizes.sessions sizes.groups) rule.events rule.world)
       × InSomeWorld (opening sizes.sessions sizes.groups ∷ run.0) seat.number (a.trace ++ decides.steps) P

@@ -69,7 +69,8 @@ but-apart x (y ∷ es) apart =
     let other : is_of x.tag x.mode y ≡ false = same_key-comm y.tag y.mode x.tag x.mode ∙ apart.0 in
     rw other (ap (λ ys. y ∷ ys) (but-apart x es apart.1))
 
--- What is so where the first one is at the head, and stays so with an entry before it that is not owned, is so of all lists that it is the first one of.
+-- What is so where the first one is at the head, and stays so with an entry before it that is not owned, is
+-- so of all lists that it is the first one of.
 pub at-first :
     (e : Entry) (P : List Entry → Type 0)
     → ((es : List Entry) → is_owned_advisory e ≡ true → AllByRecursion (λ y. are_of_same e y ≡ false) es → P (e ∷ es))

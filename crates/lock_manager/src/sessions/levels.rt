@@ -16,9 +16,10 @@ use shared_rule::Board;
 use std::sync::Wait;
 
 impl<T: PartTable, B: Board<T>> OwnSession<T, B> {
-    /// Begins a level of the transaction within the innermost one, and answers the new level (a savepoint: `PushTransaction` in xact.c, with a resource owner
-    /// of its own in resowner.c). What is acquired for the transaction from then on belongs to the new level, until that ends. A transaction begins at level
-    /// 1, and has at most 16 levels. The call makes no step, and takes no memory.
+    /// Begins a level of the transaction within the innermost one, and answers the new level (a savepoint:
+    /// `PushTransaction` in xact.c, with a resource owner of its own in resowner.c). What is acquired for the
+    /// transaction from then on belongs to the new level, until that ends. A transaction begins at level 1,
+    /// and has at most 16 levels. The call makes no step, and takes no memory.
     pub fn begin_nested(&mut self) -> Result<u8, Refusal>
         ensures too_deep { IsErrOf result Refusal.TooDeep ↔ (level_of self.old.owned ≡ max_level) }
         ensures no_other { IsOkUnless result Refusal.TooDeep }
@@ -34,8 +35,9 @@ impl<T: PartTable, B: Board<T>> OwnSession<T, B> {
         self.own.locals.begin_nested()
     }
 
-    /// Ends the innermost level, which succeeded, and answers the level in which it was begun: that level has from then on what the ended one had
-    /// (`LockReassignCurrentOwner` in lock.c). Refused at level 1; nothing has changed after a refusal. The call makes no step, and takes no memory.
+    /// Ends the innermost level, which succeeded, and answers the level in which it was begun: that level has
+    /// from then on what the ended one had (`LockReassignCurrentOwner` in lock.c). Refused at level 1;
+    /// nothing has changed after a refusal. The call makes no step, and takes no memory.
     pub fn commit_nested(&mut self) -> Result<u8, Refusal>
         ensures no_nested { IsErrOf result Refusal.NoNested ↔ (level_of self.old.owned ≡ 1) }
         ensures no_other { IsOkUnless result Refusal.NoNested }
@@ -50,8 +52,9 @@ impl<T: PartTable, B: Board<T>> OwnSession<T, B> {
         self.own.locals.hand_up()
     }
 
-    /// Ends the innermost level, which failed, and answers the level in which it was begun: what the ended level had goes, and what the outer levels and the
-    /// session have stays (`LockReleaseCurrentOwner` in lock.c). Holds that neither an outer level nor the session has are released, in the order of making,
+    /// Ends the innermost level, which failed, and answers the level in which it was begun: what the ended
+    /// level had goes, and what the outer levels and the session have stays (`LockReleaseCurrentOwner` in
+    /// lock.c). Holds that neither an outer level nor the session has are released, in the order of making,
     /// whatever their lock method. Refused at level 1; nothing has changed after a refusal.
     pub fn abort_nested<R: Wait>(&mut self, rt: &R) -> Result<u8, Refusal>
         ensures no_nested { IsErrOf result Refusal.NoNested ↔ (level_of self.old.owned ≡ 1) }
@@ -79,8 +82,8 @@ impl<T: PartTable, B: Board<T>> OwnSession<T, B> {
         Ok(self.own.locals.level())
     }
 
-    /// The innermost level of the session's transaction: 1, and one more for each level that was begun and has not ended (`GetCurrentTransactionNestLevel` in
-    /// xact.c).
+    /// The innermost level of the session's transaction: 1, and one more for each level that was begun and
+    /// has not ended (`GetCurrentTransactionNestLevel` in xact.c).
     pub fn level(&self) -> u8
         ensures { result ≡ level_of self.now.owned }
     {

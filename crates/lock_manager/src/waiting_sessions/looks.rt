@@ -44,17 +44,20 @@ impl<T: PartTable, B: Board<T>> OwnWaiting<T, B> {
         self.owner
     }
 
-    /// The modes in which the session has `tag`, as `OwnSession::held` has them of a session that doesn't wait. The awaited mode is not among them.
+    /// The modes in which the session has `tag`, as `OwnSession::held` has them of a session that doesn't
+    /// wait. The awaited mode is not among them.
     pub fn held(&self, tag: Tag) -> ModeSet
         ensures { set_has result ≡ has_entry self.now.owned.entries tag }
     {
         modes_held(&self.own.locals, tag)
     }
 
-    /// The sessions in the way of the session's own wait (what `ProcSleep` in proc.c logs of a long wait, by `log_lock_waits`), as `blockers` of another
-    /// session has them: by session and mode those who hold a mode that conflicts with the awaited one, and then, in the order of the queue, those before it
-    /// who await one. Nobody where the wait was granted meanwhile. The answer is of one episode in the object's partition, which changes nothing. Only the
-    /// list of the answer takes memory; refused where that runs out.
+    /// The sessions in the way of the session's own wait (what `ProcSleep` in proc.c logs of a long wait, by
+    /// `log_lock_waits`), as `blockers` of another session has them: by session and mode those who hold a
+    /// mode that conflicts with the awaited one, and then, in the order of the queue, those before it who
+    /// await one. Nobody where the wait was granted meanwhile. The answer is of one episode in the object's
+    /// partition, which changes nothing. Only the list of the answer takes memory; refused where that runs
+    /// out.
     pub fn blockers<R: Wait>(&mut self, rt: &R) -> Result<Vec<Blocker>, Refusal>
         // What the call answers.
         ensures looked { LooksAt (λ taken. IfOk result (λ found.
@@ -69,8 +72,9 @@ impl<T: PartTable, B: Board<T>> OwnWaiting<T, B> {
         blockers_of_own(rt, &mut self.board, &self.own, self.tag, self.mode)
     }
 
-    /// The queue in which the session waits, from its first waiter on, with the modes that each waiting session held when it joined, as `queue` of another
-    /// session has it. The session isn't in the queue where its wait was granted meanwhile. The answer is of one episode in the object's partition, which
+    /// The queue in which the session waits, from its first waiter on, with the modes that each waiting
+    /// session held when it joined, as `queue` of another session has it. The session isn't in the queue
+    /// where its wait was granted meanwhile. The answer is of one episode in the object's partition, which
     /// changes nothing. Only the list of the answer takes memory; refused where that runs out.
     pub fn queue<R: Wait>(&mut self, rt: &R) -> Result<Vec<QueueRow>, Refusal>
         // What the call answers.

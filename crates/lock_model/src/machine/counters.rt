@@ -23,16 +23,16 @@ impl CountedBy {
         self.session == session && self.tag.is_same(tag) && self.mode.is_same(mode)
     }
 
-    /// Whether this counted strong lock is that of `session` for `mode` on `tag`, and `session` has gone past just
-    /// the sessions below `position`.
+    /// Whether this counted strong lock is that of `session` for `mode` on `tag`, and `session` has gone past
+    /// just the sessions below `position`.
     fn is_by_at(&self, session: SessionId, position: u16, tag: Tag, mode: Mode) -> bool
         ensures { result ≡ is_by_at session position tag mode self.now }
     {
         self.is_by(session, tag, mode) && self.position == position
     }
 
-    /// This counted strong lock, with `owner` passed too if it is that of `session` for `mode` on `tag` and `owner`
-    /// is the next session to pass.
+    /// This counted strong lock, with `owner` passed too if it is that of `session` for `mode` on `tag` and
+    /// `owner` is the next session to pass.
     fn passed(self, session: SessionId, owner: SessionId, tag: Tag, mode: Mode) -> Self
         ensures { result ≡ passed_by session owner tag mode self }
     {
@@ -49,8 +49,8 @@ impl CountedBy {
     }
 }
 
-/// Has the strong lock that `session` has counted for `mode` on `tag` in `counted` go past `owner`, where `owner` is
-/// the next session to pass.
+/// Has the strong lock that `session` has counted for `mode` on `tag` in `counted` go past `owner`, where
+/// `owner` is the next session to pass.
 fn pass(counted: &mut [CountedBy], session: SessionId, owner: SessionId, tag: Tag, mode: Mode)
     ensures { counted.new ≡ map (passed_by session owner tag mode) counted.old }
 {
@@ -80,9 +80,9 @@ impl Machine {
     ghost use Rattle.lock_model.specs.Shows.{Shows, ShowsSafe, Follows};
     ghost use Rattle.lock_model.specs.CountedLists.{counter, counted_for, holds_fast, may_count, has_or_awaits, may_uncount, slots_show, may_pass, may_load_counter, reads_zero};
 
-    /// Counts for `session` a strong lock of `mode` on `tag` that is not counted yet and has gone past no session
-    /// (`BeginStrongLockAcquire` in lock.c). After `NoMemory`, which comes only where the list of counted locks was
-    /// full, the machine shows what it showed before.
+    /// Counts for `session` a strong lock of `mode` on `tag` that is not counted yet and has gone past no
+    /// session (`BeginStrongLockAcquire` in lock.c). After `NoMemory`, which comes only where the list of
+    /// counted locks was full, the machine shows what it showed before.
     pub fn count(&mut self, session: SessionId, tag: Tag, mode: Mode) -> Result<(), NoMemory>
         requires within { session < usual_sessions }
         requires shown { ShowsSafe self.old }
@@ -101,8 +101,8 @@ impl Machine {
         Ok(())
     }
 
-    /// Takes back the strong lock that `session` has counted for `mode` on `tag`, where `session` neither has nor
-    /// awaits that lock (`AbortStrongLockAcquire` in lock.c).
+    /// Takes back the strong lock that `session` has counted for `mode` on `tag`, where `session` neither has
+    /// nor awaits that lock (`AbortStrongLockAcquire` in lock.c).
     pub fn uncount(&mut self, session: SessionId, tag: Tag, mode: Mode)
         requires within { session < usual_sessions }
         requires shown { ShowsSafe self.old }
@@ -113,9 +113,9 @@ impl Machine {
         }
     }
 
-    /// Puts back the lock of the slots of `owner`, which `session` holds, and has the strong lock that `session` has
-    /// counted for `mode` on `tag` go past `owner`, which is the next session to pass and has no slot for `tag` (a
-    /// turn of the loop of `FastPathTransferRelationLocks` in lock.c).
+    /// Puts back the lock of the slots of `owner`, which `session` holds, and has the strong lock that
+    /// `session` has counted for `mode` on `tag` go past `owner`, which is the next session to pass and has
+    /// no slot for `tag` (a turn of the loop of `FastPathTransferRelationLocks` in lock.c).
     pub fn put_passing(&mut self, session: SessionId, owner: SessionId, tag: Tag, mode: Mode)
         requires within { session < usual_sessions }
         requires shown { ShowsSafe self.old }
@@ -130,8 +130,8 @@ impl Machine {
         }
     }
 
-    /// Loads the strong lock counter at `index`, which must show `shown`, for `session`. Where `shown` is 0 and
-    /// `session` holds the lock of its own slots, `session` may set slots for objects of this index
+    /// Loads the strong lock counter at `index`, which must show `shown`, for `session`. Where `shown` is 0
+    /// and `session` holds the lock of its own slots, `session` may set slots for objects of this index
     /// (`LockAcquireExtended` in lock.c).
     pub fn load_strong(&mut self, session: SessionId, index: u16, shown: u64)
         requires within { session < usual_sessions }
@@ -142,8 +142,8 @@ impl Machine {
         }
     }
 
-    /// Whether `session` may be granted `mode` on `tag`, or await it: a strong lock must be counted by `session`, and
-    /// have gone past each session.
+    /// Whether `session` may be granted `mode` on `tag`, or await it: a strong lock must be counted by
+    /// `session`, and have gone past each session.
     pub fn is_counted_for(&self, session: SessionId, tag: Tag, mode: Mode) -> bool
         ensures { result ≡ counted_for self.now session tag mode }
     {
@@ -200,8 +200,8 @@ impl Machine {
         self.makes_steps(session) && index < 1024 && shown == self.counter(index)
     }
 
-    /// Whether `session` may load the strong lock counter at `index`, which shows `shown`, and may set slots by that:
-    /// `shown` is 0 and `session` holds the lock of its own slots.
+    /// Whether `session` may load the strong lock counter at `index`, which shows `shown`, and may set slots
+    /// by that: `shown` is 0 and `session` holds the lock of its own slots.
     fn reads_zero(&self, session: SessionId, index: u16, shown: u64) -> bool
         requires within { session < usual_sessions }
         ensures { result ≡ reads_zero self.now session index shown }
@@ -230,8 +230,8 @@ impl Machine {
         self.locks.fast_holders[usize::from(owner.number())][usize::from(session.number())]
     }
 
-    /// Puts back the lock of the slots of `owner`, which `session` holds exclusively. Where `owner` is `session`, the
-    /// counter that `session` has read as 0 lets it set no more slot.
+    /// Puts back the lock of the slots of `owner`, which `session` holds exclusively. Where `owner` is
+    /// `session`, the counter that `session` has read as 0 lets it set no more slot.
     fn free_fast(&mut self, session: SessionId, owner: SessionId)
         requires within { session < usual_sessions }
         requires exists { owner < usual_sessions }
@@ -305,8 +305,8 @@ impl Machine {
         self.counted.iter().any(|c| c.is_by(session, tag, mode))
     }
 
-    /// Whether `session` has counted the strong lock of `mode` on `tag`, and has gone with it past just the sessions
-    /// below `position`.
+    /// Whether `session` has counted the strong lock of `mode` on `tag`, and has gone with it past just the
+    /// sessions below `position`.
     pub fn is_counted_at(&self, session: SessionId, position: u16, tag: Tag, mode: Mode) -> bool
         ensures { result ≡ list_any (is_by_at session position tag mode) self.now.counted.items }
     {

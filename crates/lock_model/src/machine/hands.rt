@@ -1,4 +1,5 @@
-//! The life of a hand: a partition is in a session's hand from the step that takes its lock to the one that puts it.
+//! The life of a hand: a partition is in a session's hand from the step that takes its lock to the one that
+//! puts it.
 
 ghost use Rattle.std.specs.Prelude.{◌≡◌, ℕ};
 ghost use Rattle.lock_model.specs.Shows.{has_made, is_unmarked_in, none_unmarked, names_in};
@@ -17,8 +18,8 @@ pub struct InHand {
     pub holder: SessionId,
     /// The move that the holder has made on the content of the partition in hand, if any.
     pub recorded: Option<Move>,
-    /// For each session number, whether the recorded move granted that session and its wait word is not yet marked
-    /// granted.
+    /// For each session number, whether the recorded move granted that session and its wait word is not yet
+    /// marked granted.
     pub unmarked: [bool; 1024],
 }
 
@@ -47,8 +48,8 @@ impl InHand {
         }
     }
 
-    /// Whether a mode may be moved from the slot `slot` of `owner` to the content in hand: no move is recorded, or
-    /// the recorded one is the adopt of this slot.
+    /// Whether a mode may be moved from the slot `slot` of `owner` to the content in hand: no move is
+    /// recorded, or the recorded one is the adopt of this slot.
     pub fn may_adopt(&self, owner: u16, slot: u8) -> bool
         ensures { result ≡ may_adopt self.now.recorded owner slot }
     {
@@ -67,8 +68,8 @@ impl Machine {
     ghost use Rattle.lock_world.specs.WaitWord.{wait_state, granted_word};
     ghost use Rattle.lock_model.specs.Shows.{hand_of};
 
-    /// The hand of `session` that has `partition`, or `None` where `session` hasn't the partition in hand or makes no
-    /// steps of its own.
+    /// The hand of `session` that has `partition`, or `None` where `session` hasn't the partition in hand or
+    /// makes no steps of its own.
     pub fn hand_of(&self, session: SessionId, partition: u8) -> Option<InHand>
         requires within { session < usual_sessions }
         ensures { result ≡ hand_of self.now session partition }
@@ -90,8 +91,8 @@ impl Machine {
         }
     }
 
-    /// Sets the word of `partition` to `held`, and puts the partition's content into the hand of `session`, with no
-    /// move recorded.
+    /// Sets the word of `partition` to `held`, and puts the partition's content into the hand of `session`,
+    /// with no move recorded.
     pub fn set_held(&mut self, session: SessionId, partition: u8, held: LwWord)
         requires { partition < 16 }
         ensures { self.new ≡ record self.old {
@@ -111,8 +112,8 @@ impl Machine {
         });
     }
 
-    /// Records the move `done` in `hand`, which has `partition`; `unmarked` says for each session number whether
-    /// `done` granted that session and its wait word is not yet marked granted.
+    /// Records the move `done` in `hand`, which has `partition`; `unmarked` says for each session number
+    /// whether `done` granted that session and its wait word is not yet marked granted.
     pub fn record(&mut self, partition: u8, hand: InHand, done: Move, unmarked: [bool; 1024])
         requires { partition < 16 }
         ensures { self.new ≡ record self.old {
@@ -129,8 +130,8 @@ impl Machine {
         });
     }
 
-    /// Marks the wait of `other`, which the move `done` in `hand` granted in `partition`: the wait word of `other`
-    /// goes from waiting to granted, and `hand` records `done` with those of `unmarked` but `other`.
+    /// Marks the wait of `other`, which the move `done` in `hand` granted in `partition`: the wait word of
+    /// `other` goes from waiting to granted, and `hand` records `done` with those of `unmarked` but `other`.
     pub fn mark(
         &mut self,
         partition: u8,
@@ -163,8 +164,8 @@ impl Machine {
         self.words.waits[index] += 1;
     }
 
-    /// Puts back the word of `partition`, which is held exclusively, and takes the partition's content out of the
-    /// hand that has it.
+    /// Puts back the word of `partition`, which is held exclusively, and takes the partition's content out of
+    /// the hand that has it.
     pub fn set_free(&mut self, partition: u8)
         requires { partition < 16 }
         ensures { self.new ≡ record self.old {

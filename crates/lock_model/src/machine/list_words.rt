@@ -13,8 +13,8 @@ impl Machine {
     ghost use Rattle.lock_model.specs.Shows.{Follows};
     ghost use Rattle.lock_model.specs.ListWords.{may_lock_list, has_list};
 
-    /// Locks the wait list of the lightweight lock `word` for `session`, where nobody has locked that list and
-    /// `session` has locked no other one (`LWLockWaitListLock` in lwlock.c).
+    /// Locks the wait list of the lightweight lock `word` for `session`, where nobody has locked that list
+    /// and `session` has locked no other one (`LWLockWaitListLock` in lwlock.c).
     pub fn lock_list(&mut self, session: SessionId, word: Word)
         requires within { session < usual_sessions }
         ensures { Follows self.old session (Step.LockList word) self.new }
@@ -27,8 +27,9 @@ impl Machine {
         }
     }
 
-    /// Unlocks the wait list of the lightweight lock `word`, which `session` has locked; has-waiters and release-ok
-    /// remain set where `has_waiters` and `release_ok` say so (`LWLockWaitListUnlock` in lwlock.c).
+    /// Unlocks the wait list of the lightweight lock `word`, which `session` has locked; has-waiters and
+    /// release-ok remain set where `has_waiters` and `release_ok` say so (`LWLockWaitListUnlock` in
+    /// lwlock.c).
     pub fn unlock_list(
         &mut self,
         session: SessionId,
@@ -49,8 +50,8 @@ impl Machine {
         }
     }
 
-    /// Sets release-ok in `word`, which showed `shown` before, for `session` (`LWLockAcquire` in lwlock.c, once the
-    /// session was woken).
+    /// Sets release-ok in `word`, which showed `shown` before, for `session` (`LWLockAcquire` in lwlock.c,
+    /// once the session was woken).
     pub fn set_release_ok(&mut self, session: SessionId, word: Word, shown: u64)
         requires within { session < usual_sessions }
         ensures { Follows self.old session (Step.SetReleaseOk word shown) self.new }
@@ -63,8 +64,8 @@ impl Machine {
         }
     }
 
-    /// Sets has-waiters in `word`, which showed `shown` before: the word of the lock whose wait list `session` has
-    /// locked (`LWLockQueueSelf` in lwlock.c).
+    /// Sets has-waiters in `word`, which showed `shown` before: the word of the lock whose wait list
+    /// `session` has locked (`LWLockQueueSelf` in lwlock.c).
     pub fn set_has_waiters(&mut self, session: SessionId, word: Word, shown: u64)
         requires within { session < usual_sessions }
         ensures { Follows self.old session (Step.SetHasWaiters word shown) self.new }
@@ -125,8 +126,8 @@ impl Machine {
         }
     }
 
-    /// Unlocks the wait list of the lock of `partition`, which `session` has locked; has-waiters and release-ok
-    /// remain set where `has_waiters` and `release_ok` say so.
+    /// Unlocks the wait list of the lock of `partition`, which `session` has locked; has-waiters and
+    /// release-ok remain set where `has_waiters` and `release_ok` say so.
     fn unlock_partition_list(
         &mut self,
         session: SessionId,
@@ -146,8 +147,8 @@ impl Machine {
         }
     }
 
-    /// Unlocks the wait list of the lock of the fast-path slots of `owner`, which `session` has locked; has-waiters
-    /// and release-ok remain set where `has_waiters` and `release_ok` say so.
+    /// Unlocks the wait list of the lock of the fast-path slots of `owner`, which `session` has locked;
+    /// has-waiters and release-ok remain set where `has_waiters` and `release_ok` say so.
     fn unlock_fast_list(
         &mut self,
         session: SessionId,
@@ -183,8 +184,8 @@ impl Machine {
         }
     }
 
-    /// Sets release-ok in the word of the lock of the fast-path slots of `owner`, which showed `shown` before, for
-    /// `session`.
+    /// Sets release-ok in the word of the lock of the fast-path slots of `owner`, which showed `shown`
+    /// before, for `session`.
     fn set_fast_release_ok(&mut self, session: SessionId, owner: SessionId, shown: u64)
         requires within { session < usual_sessions }
         ensures { Follows self.old session (Step.SetReleaseOk (Word.Fast owner) shown) self.new }
@@ -198,8 +199,8 @@ impl Machine {
         }
     }
 
-    /// Sets has-waiters in the word of the lock of `partition`, which showed `shown` before and whose wait list
-    /// `session` has locked.
+    /// Sets has-waiters in the word of the lock of `partition`, which showed `shown` before and whose wait
+    /// list `session` has locked.
     fn set_partition_has_waiters(&mut self, session: SessionId, partition: u8, shown: u64)
         requires within { session < usual_sessions }
         ensures { Follows self.old session (Step.SetHasWaiters (Word.Partition partition) shown) self.new }
@@ -213,8 +214,8 @@ impl Machine {
         }
     }
 
-    /// Sets has-waiters in the word of the lock of the fast-path slots of `owner`, which showed `shown` before and
-    /// whose wait list `session` has locked.
+    /// Sets has-waiters in the word of the lock of the fast-path slots of `owner`, which showed `shown`
+    /// before and whose wait list `session` has locked.
     fn set_fast_has_waiters(&mut self, session: SessionId, owner: SessionId, shown: u64)
         requires within { session < usual_sessions }
         ensures { Follows self.old session (Step.SetHasWaiters (Word.Fast owner) shown) self.new }

@@ -34,9 +34,9 @@ impl Machine {
     ghost use Rattle.lock_model.specs.Shows.{Shows, ShowsSafe, Follows};
     ghost use Rattle.lock_model.specs.SleeperLists.{list_to_change, waits_at, may_tell, may_load_sleep, sees_no_sleep};
 
-    /// Puts `session` at the end of the wait list that it has locked, as one that wants `mode` (`LWLockQueueSelf` in
-    /// lwlock.c). After `NoMemory`, which comes only where the list of sleepers was full, the machine shows what it
-    /// showed before.
+    /// Puts `session` at the end of the wait list that it has locked, as one that wants `mode`
+    /// (`LWLockQueueSelf` in lwlock.c). After `NoMemory`, which comes only where the list of sleepers was
+    /// full, the machine shows what it showed before.
     pub fn join_list(&mut self, session: SessionId, mode: LwMode) -> Result<(), NoMemory>
         requires within { session < usual_sessions }
         requires shown { ShowsSafe self.old }
@@ -77,8 +77,8 @@ impl Machine {
         }
     }
 
-    /// Takes `other` off the wait list that `session` has locked, to be woken later (the first loop of `LWLockWakeup`
-    /// in lwlock.c).
+    /// Takes `other` off the wait list that `session` has locked, to be woken later (the first loop of
+    /// `LWLockWakeup` in lwlock.c).
     pub fn take_off(&mut self, session: SessionId, other: SessionId)
         requires within { session < usual_sessions }
         requires shown { ShowsSafe self.old }
@@ -102,7 +102,8 @@ impl Machine {
         }
     }
 
-    /// Clears the sleep word of `other`, which `session` took off a wait list (the second loop of `LWLockWakeup` in lwlock.c).
+    /// Clears the sleep word of `other`, which `session` took off a wait list (the second loop of
+    /// `LWLockWakeup` in lwlock.c).
     pub fn tell(&mut self, session: SessionId, other: SessionId)
         requires within { session < usual_sessions }
         requires shown { ShowsSafe self.old }
@@ -119,8 +120,8 @@ impl Machine {
         }
     }
 
-    /// Loads the sleep word of `session`, which must show `shown`: where `shown` is 0, the session is in no wait list
-    /// (the sleep in `LWLockAcquire` in lwlock.c).
+    /// Loads the sleep word of `session`, which must show `shown`: where `shown` is 0, the session is in no
+    /// wait list (the sleep in `LWLockAcquire` in lwlock.c).
     pub fn load_sleep(&mut self, session: SessionId, shown: u8)
         requires within { session < usual_sessions }
         requires shown { ShowsSafe self.old }
@@ -132,8 +133,8 @@ impl Machine {
         }
     }
 
-    /// The lock whose wait list `session` has locked, or `None` where there is no such lock or the session makes no
-    /// steps.
+    /// The lock whose wait list `session` has locked, or `None` where there is no such lock or the session
+    /// makes no steps.
     fn list_to_change(&self, session: SessionId) -> Option<u16>
         requires within { session < usual_sessions }
         ensures { result ≡ list_to_change self.now session }
@@ -183,8 +184,8 @@ impl Machine {
         self.makes_steps(session) && shown == self.lists.sleep[usize::from(session.number())]
     }
 
-    /// Whether `session` may load its sleep word, which shows `shown`, and sees by `shown` that it is in no wait
-    /// list.
+    /// Whether `session` may load its sleep word, which shows `shown`, and sees by `shown` that it is in no
+    /// wait list.
     fn sees_no_sleep(&self, session: SessionId, shown: u8) -> bool
         requires within { session < usual_sessions }
         ensures { result ≡ sees_no_sleep self.now session shown }

@@ -1,4 +1,5 @@
-//! What steps of the machine make of the word of a lightweight lock, where `LwWord` has no call of its own for it.
+//! What steps of the machine make of the word of a lightweight lock, where `LwWord` has no call of its own
+//! for it.
 
 ghost use Rattle.std.specs.Prelude.{◌≡◌, ◌↔◌, ◌≤◌, IsTrue};
 ghost use Rattle.std.specs.Option.{SomeIff};
@@ -9,8 +10,8 @@ ghost use Rattle.lock_model.specs.ListWords.{unlocked_in};
 use lw_word::{LwMode, LwWord};
 use modes_core::USUAL_SESSIONS;
 
-/// `word` with one more sharer, or `None` where somebody holds the lock exclusively. No word shows more sharers than
-/// there are sessions, so that the count has room.
+/// `word` with one more sharer, or `None` where somebody holds the lock exclusively. No word shows more
+/// sharers than there are sessions, so that the count has room.
 pub fn share(word: LwWord) -> Option<LwWord>
     ensures { SomeIff result (IsFreeFor Shared word × (word.shared ≤ 64)) (taken_in Shared word) }
 {
@@ -42,8 +43,8 @@ pub fn put(word: LwWord, mode: LwMode) -> LwWord
     }
 }
 
-/// `word` with its wait list unlocked: has-waiters and release-ok remain set where `has_waiters` and `release_ok` say
-/// so.
+/// `word` with its wait list unlocked: has-waiters and release-ok remain set where `has_waiters` and
+/// `release_ok` say so.
 pub fn unlocked(word: LwWord, has_waiters: bool, release_ok: bool) -> LwWord
     ensures { result ≡ unlocked_in word has_waiters release_ok }
 {

@@ -21,7 +21,8 @@ use wait_queue::{remove_waiter, take_hold_out};
 pub struct MovedPart {
     /// The partition's content after the move.
     pub part: PlainPart,
-    /// Whether the move ended by a wakeup, which granted the waits of the sessions that `part` names as woken.
+    /// Whether the move ended by a wakeup, which granted the waits of the sessions that `part` names as
+    /// woken.
     pub wakes: bool,
 }
 
@@ -45,8 +46,8 @@ impl MovedPart {
     }
 }
 
-/// `part` once the hold of `session` on `tag` in `mode` is released and the waits are granted that this lets go on.
-/// `None` where `session` has no such hold.
+/// `part` once the hold of `session` on `tag` in `mode` is released and the waits are granted that this lets
+/// go on. `None` where `session` has no such hold.
 pub fn after_release(
     part: &PlainPart,
     session: SessionId,
@@ -70,8 +71,8 @@ pub fn after_release(
     }))
 }
 
-/// `part` once the wait of `session` has left the queue of `tag` and the waits are granted that this lets go on.
-/// `None` where `session` has no wait in that queue.
+/// `part` once the wait of `session` has left the queue of `tag` and the waits are granted that this lets go
+/// on. `None` where `session` has no wait in that queue.
 pub fn after_leaving(
     part: &PlainPart,
     session: SessionId,
@@ -98,8 +99,8 @@ impl Machine {
     ghost use Rattle.lock_model.specs.MovedPart.{IsMoved};
     ghost use Rattle.lock_model.specs.Shows.{IsOwnFor, CannotMake};
 
-    /// What the release or the leave `done` of `session` makes of `partition`. `None` where `session` may not make
-    /// that move.
+    /// What the release or the leave `done` of `session` makes of `partition`. `None` where `session` may not
+    /// make that move.
     pub fn after_move(
         &self,
         session: SessionId,

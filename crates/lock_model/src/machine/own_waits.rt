@@ -32,8 +32,8 @@ impl Machine {
         }
     }
 
-    /// Whether `session` may ask for `mode` on `tag`: it waits for nothing, and has that hold neither in a content
-    /// nor in a slot.
+    /// Whether `session` may ask for `mode` on `tag`: it waits for nothing, and has that hold neither in a
+    /// content nor in a slot.
     pub fn may_ask(&self, session: SessionId, tag: Tag, mode: Mode) -> bool
         requires within { session < usual_sessions }
         requires shown { ShowsSafe self.now }

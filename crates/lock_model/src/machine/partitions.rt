@@ -28,8 +28,9 @@ impl Machine {
         }
     }
 
-    /// Puts back `word`, which `session` holds exclusively, with the move `done` that `session` makes on the content
-    /// of the partition; `done` is no move where `word` is that of fast-path slots (`LWLockRelease` in lwlock.c).
+    /// Puts back `word`, which `session` holds exclusively, with the move `done` that `session` makes on the
+    /// content of the partition; `done` is no move where `word` is that of fast-path slots (`LWLockRelease`
+    /// in lwlock.c).
     pub fn put_exclusive(
         &mut self,
         session: SessionId,
@@ -67,8 +68,8 @@ impl Machine {
         }
     }
 
-    /// Puts back `partition`, which `session` has in hand, with the move `done`, which is recorded in the hand or
-    /// made as the partition is put.
+    /// Puts back `partition`, which `session` has in hand, with the move `done`, which is recorded in the
+    /// hand or made as the partition is put.
     fn put_partition(
         &mut self,
         session: SessionId,
@@ -105,8 +106,8 @@ impl Machine {
         }
     }
 
-    /// Puts back `partition`, which `session` has in hand with no move recorded, with the move `done`, which is made
-    /// as the partition is put.
+    /// Puts back `partition`, which `session` has in hand with no move recorded, with the move `done`, which
+    /// is made as the partition is put.
     fn put_made(&mut self, session: SessionId, partition: u8, done: Move) -> Result<(), NoMemory>
         requires within { session < usual_sessions }
         requires shown { ShowsSafe self.old }

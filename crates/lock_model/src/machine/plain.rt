@@ -58,8 +58,8 @@ impl Plain {
     ghost use Rattle.lock_world.specs.SlotHolds.{group_size};
     ghost use Rattle.lock_world.specs.World.{WordExists};
 
-    /// All holds, those in fast-path slots and those in the lock table, each once, with where it is recorded: by
-    /// session, then by the tag's numbers, then by the mode's number, then by where they are recorded.
+    /// All holds, those in fast-path slots and those in the lock table, each once, with where it is recorded:
+    /// by session, then by the tag's numbers, then by the mode's number, then by where they are recorded.
     pub fn holds(&self) -> &[Hold]
         ensures { result.now ≡ holds_of self.now }
     {
@@ -73,15 +73,16 @@ impl Plain {
         self.waits.as_slice()
     }
 
-    /// Which session waits for which lightweight lock, in the order of joining: those of one lock are its wait list.
+    /// Which session waits for which lightweight lock, in the order of joining: those of one lock are its
+    /// wait list.
     pub fn sleepers(&self) -> &[Sleeper]
         ensures { result.now ≡ listed_sleepers self.now }
     {
         self.lists.sleepers.as_slice()
     }
 
-    /// What the strong lock counter at `index` shows, and 0 where there is no counter of this index: there are
-    /// 1,024.
+    /// What the strong lock counter at `index` shows, and 0 where there is no counter of this index: there
+    /// are 1,024.
     pub fn counter(&self, index: u16) -> u64
         ensures shown { index < 1024 → result ≡ word_of self.now (Strong index) }
         ensures absent { 1024 ≤ index → result ≡ 0 }
@@ -89,9 +90,9 @@ impl Plain {
         self.word(Word::Strong(index))
     }
 
-    /// What `word` shows, and 0 where there is no such word: there are 16 partitions, 16 fast-path slots a session
-    /// in each group, and 1,024 strong lock counters. Words of a session numbered 64 or above show what they show at
-    /// the opening, but for its wait word once it was asked to cancel.
+    /// What `word` shows, and 0 where there is no such word: there are 16 partitions, 16 fast-path slots a
+    /// session in each group, and 1,024 strong lock counters. Words of a session numbered 64 or above show
+    /// what they show at the opening, but for its wait word once it was asked to cancel.
     pub fn word(&self, word: Word) -> u64
         ensures shown { WordExists (groups_of self.now) word → result ≡ word_of self.now word }
         ensures absent { ¬ (WordExists (groups_of self.now) word) → result ≡ 0 }

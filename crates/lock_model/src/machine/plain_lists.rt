@@ -19,8 +19,8 @@ use super::state::FastPath;
 use lock_table::{NoMemory, PlainPart};
 use std::alloc::Global;
 
-/// The holds of all `parts` and those that sessions' slots show by `fast_path`, in the order of holds. Each request
-/// is held once at most in a part.
+/// The holds of all `parts` and those that sessions' slots show by `fast_path`, in the order of holds. Each
+/// request is held once at most in a part.
 pub fn gather_holds(
     alloc: Global,
     fast_path: &FastPath,
@@ -41,8 +41,8 @@ pub fn gather_holds(
     Ok(holds)
 }
 
-/// The waits of all `parts`, by tag. Where each object's waits are in the object's own partition, those on one object
-/// are its queue, in its order.
+/// The waits of all `parts`, by tag. Where each object's waits are in the object's own partition, those on
+/// one object are its queue, in its order.
 pub fn gather_waits(alloc: Global, parts: &[PlainPart]) -> Result<Vec<QueuedWait>, NoMemory>
     ensures all { IfOk result (λ list. AreAtHome parts.now → (tag : Tag) →
         map as_wait (filter (λ queued. tag_eq queued.tag tag) list.items)

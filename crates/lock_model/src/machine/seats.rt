@@ -39,8 +39,8 @@ impl Machine {
         }
     }
 
-    /// Joins the seat of `session` to that of `joiner`, which keeps `session` apart, or closes `session` where
-    /// `joiner` is `None`.
+    /// Joins the seat of `session` to that of `joiner`, which keeps `session` apart, or closes `session`
+    /// where `joiner` is `None`.
     pub fn join_seat(&mut self, session: SessionId, joiner: Option<SessionId>)
         requires within { session < usual_sessions }
         ensures { Follows self.old session (Step.JoinSeat joiner) self.new }
@@ -70,7 +70,8 @@ impl Machine {
         }
     }
 
-    /// Closes `session`, where it has nothing left: no hold, no wait, no lightweight lock and no counted strong lock.
+    /// Closes `session`, where it has nothing left: no hold, no wait, no lightweight lock and no counted
+    /// strong lock.
     fn close(&mut self, session: SessionId)
         requires within { session < usual_sessions }
         ensures { Follows self.old session (Step.JoinSeat None) self.new }

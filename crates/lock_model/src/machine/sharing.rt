@@ -1,5 +1,5 @@
-//! The plain machine's steps of sharing a lightweight lock: that of a partition, whose content does not come with it,
-//! and that of a session's fast-path slots.
+//! The plain machine's steps of sharing a lightweight lock: that of a partition, whose content does not come
+//! with it, and that of a session's fast-path slots.
 
 use super::lw_words::{put, share};
 use super::state::{Machine, has_a_mark};
@@ -14,8 +14,8 @@ impl Machine {
     ghost use Rattle.lock_world.specs.declared.events.Word.{Word};
     ghost use Rattle.lock_model.specs.Shows.{Follows, has_a_mark};
 
-    /// Shares `word`, where nobody holds it exclusively and `session` does not share it yet (`LWLockAcquire` with
-    /// `LW_SHARED` in lwlock.c).
+    /// Shares `word`, where nobody holds it exclusively and `session` does not share it yet (`LWLockAcquire`
+    /// with `LW_SHARED` in lwlock.c).
     pub fn take_shared(&mut self, session: SessionId, word: Word)
         requires within { session < usual_sessions }
         ensures { Follows self.old session (Step.TakeShared word) self.new }

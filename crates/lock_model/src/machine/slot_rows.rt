@@ -10,8 +10,8 @@ use lock_table::NoMemory;
 use lw_word::SlotWord;
 use modes_core::{Mode, SessionId, Tag, is_eligible};
 
-/// Appends to `list` the holds that all sessions' slots show by `fast_path`, by session and by place (the first part
-/// of `GetLockStatusData` in lock.c).
+/// Appends to `list` the holds that all sessions' slots show by `fast_path`, by session and by place (the
+/// first part of `GetLockStatusData` in lock.c).
 pub fn append_slot_holds(fast_path: &FastPath, list: &mut Vec<Hold>) -> Result<(), NoMemory>
     ensures { OnOk result (list.new.items
         ≡ list.old.items ++ fast_path_rows fast_path.now.databases fast_path.now.slots) }
@@ -50,8 +50,8 @@ fn word_at(fast_path: &FastPath, session: SessionId, place: u8) -> SlotWord
     fast_path.slots[usize::from(session.number())][usize::from(place)]
 }
 
-/// Appends to `list` the holds of `session` that its slot with `word` at `place` shows, on a relation in `database`,
-/// by mode.
+/// Appends to `list` the holds of `session` that its slot with `word` at `place` shows, on a relation in
+/// `database`, by mode.
 fn append_slot(
     session: SessionId,
     database: u32,
@@ -66,8 +66,8 @@ fn append_slot(
     append_shown(session, database, place, word, Mode::RowExclusive, list)
 }
 
-/// Appends to `list` the hold of `session` that its slot with `word` at `place` shows in `mode`, on a relation in
-/// `database`, if it shows one.
+/// Appends to `list` the hold of `session` that its slot with `word` at `place` shows in `mode`, on a
+/// relation in `database`, if it shows one.
 fn append_shown(
     session: SessionId,
     database: u32,

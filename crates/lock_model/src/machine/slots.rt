@@ -1,4 +1,5 @@
-//! The plain machine's steps on sessions' fast-path slots, and on their locks (`fpInfoLock` of a `PGPROC`, proc.h).
+//! The plain machine's steps on sessions' fast-path slots, and on their locks (`fpInfoLock` of a `PGPROC`,
+//! proc.h).
 
 ghost use Rattle.std.specs.Prelude.{◌≡◌, ◌<◌, length};
 ghost use Rattle.std.specs.List.{list_any};
@@ -34,7 +35,8 @@ fn some_slot_is_of(slots: &[SlotWord], relation: u32) -> bool
     slots.iter().any(|word| is_slot_of(*word, relation))
 }
 
-/// Whether the slot at `place` is in the group of `relation`, where each session has `groups` groups of slots.
+/// Whether the slot at `place` is in the group of `relation`, where each session has `groups` groups of
+/// slots.
 fn may_use(groups: u8, relation: u32, place: usize) -> bool
     requires { 0 < groups }
     ensures { result ≡ may_use groups relation place }
@@ -42,8 +44,8 @@ fn may_use(groups: u8, relation: u32, place: usize) -> bool
     place / 16 == (relation % u32::from(groups)) as usize
 }
 
-/// Whether a grant for `relation` takes the slot at `place`, with `groups` groups: it is of the relation's group,
-/// and in use for the relation, or not in use and none of `slots` is for it.
+/// Whether a grant for `relation` takes the slot at `place`, with `groups` groups: it is of the relation's
+/// group, and in use for the relation, or not in use and none of `slots` is for it.
 fn is_slot_to_grant(groups: u8, slots: &[SlotWord], relation: u32, place: usize) -> bool
     requires groups { 0 < groups }
     requires within { place < length slots.now }
@@ -66,8 +68,8 @@ impl Machine {
     ghost use Rattle.lock_model.specs.Shows.{ShowsSafe, Follows, has_a_mark, is_number};
     ghost use Rattle.lock_model.specs.SlotLooks.{slots_at, has_own_slots, may_set_slot, may_clear_slot, may_store_database};
 
-    /// Takes the lock of the slots of `owner` exclusively for `session`, where nobody has it (`LWLockAcquire` with
-    /// `LW_EXCLUSIVE` in lwlock.c). `owner` is any session number, issued or not, that of `session` too.
+    /// Takes the lock of the slots of `owner` exclusively for `session`, where nobody has it (`LWLockAcquire`
+    /// with `LW_EXCLUSIVE` in lwlock.c). `owner` is any session number, issued or not, that of `session` too.
     pub fn take_fast(&mut self, session: SessionId, owner: SessionId)
         requires within { session < usual_sessions }
         ensures { Follows self.old session (Step.TakeExclusive (Word.Fast owner)) self.new }
@@ -85,9 +87,9 @@ impl Machine {
         }
     }
 
-    /// Puts back the lock of the slots of `owner`, which `session` holds exclusively, with `done`, which is no move
-    /// (`LWLockRelease` in lwlock.c). Where `owner` is `session`, the counter that `session` has read as 0 lets it
-    /// set no more slot.
+    /// Puts back the lock of the slots of `owner`, which `session` holds exclusively, with `done`, which is
+    /// no move (`LWLockRelease` in lwlock.c). Where `owner` is `session`, the counter that `session` has read
+    /// as 0 lets it set no more slot.
     pub fn put_fast(&mut self, session: SessionId, owner: SessionId, done: Move)
         requires within { session < usual_sessions }
         ensures { Follows self.old session (Step.PutExclusive (Word.Fast owner) done) self.new }
@@ -117,14 +119,14 @@ impl Machine {
         has_a_mark(self.locks.fast_holders.as_slice(), session)
     }
 
-    /// Loads `word`, which must show `shown`, for `session`: any slot, any session's database, or the lock of the
-    /// session's own slots. No step of the machine keeps what a load showed.
+    /// Loads `word`, which must show `shown`, for `session`: any slot, any session's database, or the lock of
+    /// the session's own slots. No step of the machine keeps what a load showed.
     pub fn load_word(&mut self, session: SessionId, word: Word, shown: u64)
         ensures { Follows self.old session (Step.LoadWord word shown) self.new }
     {}
 
-    /// Sets `mode` on the relation of `tag` in `slot` of `session`, with the lock of its slots held, after the strong
-    /// lock counter of `tag` was read as 0 (`FastPathGrantRelationLock` in lock.c).
+    /// Sets `mode` on the relation of `tag` in `slot` of `session`, with the lock of its slots held, after
+    /// the strong lock counter of `tag` was read as 0 (`FastPathGrantRelationLock` in lock.c).
     pub fn set_slot(&mut self, session: SessionId, slot: u8, tag: Tag, mode: Mode)
         requires within { session < usual_sessions }
         requires shown { ShowsSafe self.old }
@@ -152,7 +154,8 @@ impl Machine {
         }
     }
 
-    /// Stores `database` as that of `session`, where it has none and no slot in use (`InitPostgres` in postinit.c).
+    /// Stores `database` as that of `session`, where it has none and no slot in use (`InitPostgres` in
+    /// postinit.c).
     pub fn store_database(&mut self, session: SessionId, database: u32)
         requires within { session < usual_sessions }
         ensures { Follows self.old session (Step.StoreDatabase database) self.new }

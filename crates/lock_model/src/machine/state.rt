@@ -38,8 +38,8 @@ pub struct Words {
     pub waits: [u8; 1024],
 }
 
-/// Who has which lightweight locks: for each lock a mark for each session. Who holds a partition's lock exclusively
-/// is not in these marks: the hands of `Contents` say it.
+/// Who has which lightweight locks: for each lock a mark for each session. Who holds a partition's lock
+/// exclusively is not in these marks: the hands of `Contents` say it.
 #[derive(Clone, Copy)]
 pub struct Locks {
     /// For each session, who holds the lock of its fast-path slots exclusively: a mark for each session.
@@ -85,8 +85,8 @@ pub struct FastPath {
     pub databases: [u32; 64],
     /// The words of each session's slots, with places for those of eight groups.
     pub slots: [[SlotWord; 128]; 64],
-    /// For each session, the index of the strong lock counter that it has read as 0, for as long as that lets it set
-    /// a slot.
+    /// For each session, the index of the strong lock counter that it has read as 0, for as long as that lets
+    /// it set a slot.
     pub zeros: [Option<u16>; 64],
 }
 
@@ -120,12 +120,12 @@ pub struct CountedBy {
     pub position: u16,
 }
 
-/// A session that waits for a lightweight lock, by the number of the lock: twice the partition, or twice the session
-/// whose slots the lock guards and 1 more.
+/// A session that waits for a lightweight lock, by the number of the lock: twice the partition, or twice the
+/// session whose slots the lock guards and 1 more.
 #[derive(Clone, Copy)]
 pub struct Sleeper {
-    /// The number of the lightweight lock that the session waits for: twice the partition, or twice the session whose
-    /// slots the lock guards and 1 more.
+    /// The number of the lightweight lock that the session waits for: twice the partition, or twice the
+    /// session whose slots the lock guards and 1 more.
     pub lock: u16,
     /// The session that waits, and how it wants to take the lock.
     pub waiter: LwWaiter,
@@ -140,7 +140,8 @@ pub struct Lists {
     pub sleepers: Vec<Sleeper>,
     /// For each session, the number of the lightweight lock whose wait list it has locked, if any.
     pub has_list: [Option<u16>; 64],
-    /// For each session, the number of the lightweight lock in whose wait list it is by its own account, if any.
+    /// For each session, the number of the lightweight lock in whose wait list it is by its own account, if
+    /// any.
     pub stands: [Option<u16>; 64],
     /// For each session, whom it has taken off a wait list and not woken yet: a mark for each session.
     pub off: [[bool; 64]; 64],

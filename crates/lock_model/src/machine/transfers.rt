@@ -12,10 +12,10 @@ impl Machine {
     ghost use Rattle.lock_model.specs.Shows.{Shows, ShowsSafe, Follows};
     ghost use Rattle.lock_model.specs.Transfers.{is_in_slot, may_transfer};
 
-    /// Moves `mode`, which the slot `slot` of `owner` has, to the content of `tag` in the hand of `session`, where
-    /// `owner` is the next session that the strong lock of `session` has to pass and the lock of the slots of `owner`
-    /// is held (the inner loop of `FastPathTransferRelationLocks` in lock.c). After `NoMemory` the machine shows what
-    /// it showed before.
+    /// Moves `mode`, which the slot `slot` of `owner` has, to the content of `tag` in the hand of `session`,
+    /// where `owner` is the next session that the strong lock of `session` has to pass and the lock of the
+    /// slots of `owner` is held (the inner loop of `FastPathTransferRelationLocks` in lock.c). After
+    /// `NoMemory` the machine shows what it showed before.
     pub fn transfer_slot(
         &mut self,
         session: SessionId,
@@ -63,8 +63,8 @@ impl Machine {
         Ok(())
     }
 
-    /// Whether `session` may move `mode` on `tag` out of the slot of `owner` at `place` for its lock in the mode
-    /// `strong`, where it has the partition in hand.
+    /// Whether `session` may move `mode` on `tag` out of the slot of `owner` at `place` for its lock in the
+    /// mode `strong`, where it has the partition in hand.
     fn may_transfer(
         &self,
         session: SessionId,

@@ -22,8 +22,8 @@ impl Machine {
     ghost use Rattle.lock_model.specs.CountedLists.{counted_for};
     ghost use Rattle.lock_model.specs.Shows.{ShowsSafe, Follows, FollowsMarking, IsWaking, IsOwnFor, CannotMake, makes_steps, hand_of};
 
-    /// Asks `other`, which may be any session, on behalf of `session` to cancel its wait: bit 2 of its wait word is
-    /// set.
+    /// Asks `other`, which may be any session, on behalf of `session` to cancel its wait: bit 2 of its wait
+    /// word is set.
     pub fn ask_cancel(&mut self, session: SessionId, other: SessionId)
         requires within { session < usual_sessions }
         ensures { Follows self.old session (Step.AskCancel other) self.new }
@@ -34,8 +34,8 @@ impl Machine {
         }
     }
 
-    /// Loads the wait word of `session`, which must show `shown`: where `shown` says that the wait was granted, the
-    /// session has seen its grant.
+    /// Loads the wait word of `session`, which must show `shown`: where `shown` says that the wait was
+    /// granted, the session has seen its grant.
     pub fn load_wait(&mut self, session: SessionId, shown: u8)
         requires within { session < usual_sessions }
         ensures { Follows self.old session (Step.LoadWait shown) self.new }
@@ -93,9 +93,9 @@ impl Machine {
         }
     }
 
-    /// Clears the wait word of `session`, where the session has seen its grant, or has the partition in hand and its
-    /// wait is in the queue no more. With `leaving`, the session has the partition in hand, and its wait is taken out
-    /// of the queue unless that leave is recorded already.
+    /// Clears the wait word of `session`, where the session has seen its grant, or has the partition in hand
+    /// and its wait is in the queue no more. With `leaving`, the session has the partition in hand, and its
+    /// wait is taken out of the queue unless that leave is recorded already.
     pub fn clear_wait(&mut self, session: SessionId, leaving: bool)
         requires within { session < usual_sessions }
         requires shown { ShowsSafe self.old }
@@ -175,8 +175,8 @@ impl Machine {
         Ok(())
     }
 
-    /// Makes the move `done` of `session` in `hand`, which has `partition`, where `done` grants the wait of `other`,
-    /// and marks that wait granted.
+    /// Makes the move `done` of `session` in `hand`, which has `partition`, where `done` grants the wait of
+    /// `other`, and marks that wait granted.
     fn mark_first(
         &mut self,
         session: SessionId,
@@ -220,8 +220,8 @@ impl Machine {
         }
     }
 
-    /// Takes the wait of `session` out of the queue of `tag`, and clears its wait word. Where that leave is recorded
-    /// already, only the word is cleared.
+    /// Takes the wait of `session` out of the queue of `tag`, and clears its wait word. Where that leave is
+    /// recorded already, only the word is cleared.
     fn leave_queue(&mut self, session: SessionId, tag: Tag)
         requires within { session < usual_sessions }
         requires shown { ShowsSafe self.old }
@@ -247,7 +247,8 @@ impl Machine {
         }
     }
 
-    /// Makes the leave in `hand`: takes the wait of `session` out of the queue of `tag`, and clears its wait word.
+    /// Makes the leave in `hand`: takes the wait of `session` out of the queue of `tag`, and clears its wait
+    /// word.
     fn leave_now(&mut self, session: SessionId, tag: Tag, hand: InHand)
         requires within { session < usual_sessions }
         requires shown { ShowsSafe self.old }

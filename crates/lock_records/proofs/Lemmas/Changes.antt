@@ -58,7 +58,8 @@ queue-less holders holders' queue s t m is waiting = record {
         | elsewhere not_it e ↦ e ∙ waiting.apart k n awaits
       ]
 
--- A queue stays right without a wait, and with one of a session that doesn't wait there, for a mode that it doesn't hold.
+-- A queue stays right without a wait, and with one of a session that doesn't wait there, for a mode that it
+-- doesn't hold.
 pub queue-without : (holders : List (Option HolderRecord)) (queue : List Wait) (s : ℕ) (t : Tag) → IsQueue holders queue t → IsQueue holders (queue_without queue s) t
 queue-without holders queue s t waiting = record {
   one_each = one-each-without queue s waiting.one_each;

@@ -11,8 +11,8 @@ use Rattle.lock_records.specs.Tally.{one_more, one_less}
 use Rattle.lock_records.specs.Counting.{sessions_below, granted_of}
 use Rattle.modes_core.specs.Sessions.{most_sessions}
 
--- How many of the sessions below a number pass: no more than the number, as many where the tests agree, one more where they
--- agree but at one, and some where one passes.
+-- How many of the sessions below a number pass: no more than the number, as many where the tests agree, one
+-- more where they agree but at one, and some where one passes.
 pub below-le : (n : ℕ) (test : ℕ → Bool) → sessions_below n test ≤ n
 unfolding sessions_below
 below-le zero test = omega arith

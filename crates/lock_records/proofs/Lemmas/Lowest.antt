@@ -12,7 +12,8 @@ use Rattle.lock_records.proofs.Lemmas.ModeSets.{any-mode}
 use Rattle.lock_table.proofs.Lemmas.Lists.{any_found}
 use Rattle.std.proofs.lemmas.Bool.{and_parts}
 
--- Each record of the object, of a session below the bound and not this one, is still to come or shows no mode of the set.
+-- Each record of the object, of a session below the bound and not this one, is still to come or shows no mode
+-- of the set.
 abbrev pub NoneMetBelow : List (Option HolderRecord) → ℕ → Tag → ℕ → List ℕ → (ℕ → Type 0) → Type 0
 NoneMetBelow slots s t set left below =
     (k other : ℕ) → (i : IsHolderAt slots other t k) → other ≢ s → below other → IsIn k left ⊎ (meet i.holder.modes set ≡ false)

@@ -132,7 +132,8 @@ objects-close locks locks' holders holders' waits waits' tag same_locks same sam
           (object-else locks locks' holders holders' tag t (λ e. both_ways _ apart (ap (λ x. tag_eq x tag) e ∙ tag_eq-refl tag)) same_locks same (queue_on waits t) (are t))
     ]
 
--- A lock record that counts somebody is used, and one that counts nobody is of an object that nobody holds or awaits.
+-- A lock record that counts somebody is used, and one that counts nobody is of an object that nobody holds or
+-- awaits.
 pub used-counted :
     (holders : List (Option HolderRecord)) (queue : List Wait) (t : Tag) (l : LockRecord) → AreHolders holders t → IsLock holders queue t l →
     (0 < l.holders.count) ⊎ ((m : Mode) × (0 < counts_in l.awaited m)) → IsUsed holders queue t

@@ -24,8 +24,8 @@ hold_all-push : (granted : List Wait) (holds : Holds) (t : Tag) (w : Wait) → h
 hold_all-push [] holds t w = refl
 hold_all-push (v ∷ granted) holds t w = hold_all-push granted (set_hold holds v.session t v.mode true) t w
 
--- How far a wakeup of an object has come from a content: what it is now, which waits of the queue were passed and which are still to
--- come, and whom it woke.
+-- How far a wakeup of an object has come from a content: what it is now, which waits of the queue were passed
+-- and which are still to come, and whom it woke.
 pub record WakingTo (before : Content) (t : Tag) (now : Content) (done todo : List Wait) (woken : List (ℕ × Mode)) : Type 0 where
   pub granted : List Wait
   pub told : woken ≡ map whose_and_mode granted

@@ -1,5 +1,5 @@
-//! What the calls of a partition with records are made of: looks at its records, a wait that becomes a hold, and the list of those
-//! whom a wakeup granted.
+//! What the calls of a partition with records are made of: looks at its records, a wait that becomes a hold,
+//! and the list of those whom a wakeup granted.
 
 ghost use Rattle.std.specs.Prelude.{◌≡◌, ◌<◌, ◌≤◌, false, true};
 
@@ -24,8 +24,8 @@ impl Records {
     ghost use Rattle.lock_table.specs.Queue.{awaits_mode, remove_wait, conflicts_with_some};
     ghost use Rattle.lock_records.specs.View.{content_of};
 
-    /// Whether `session` can be granted `mode` on `tag` behind waits for the modes `ahead`: `mode` conflicts with
-    /// none of `ahead`, and with no hold of another session.
+    /// Whether `session` can be granted `mode` on `tag` behind waits for the modes `ahead`: `mode` conflicts
+    /// with none of `ahead`, and with no hold of another session.
     pub(super) fn is_free(&self, session: SessionId, tag: &Tag, mode: Mode, ahead: ModeSet) -> bool
         ensures free { result ≡ true →
             (conflicts_with_some mode (set_has ahead) ≡ false)
@@ -126,8 +126,8 @@ impl Records {
         self.woken.push_reserved((session, mode));
     }
 
-    /// Appends to `rows` a row for each hold and each wait of the partition, in no order. After a refusal some rows
-    /// may have been added.
+    /// Appends to `rows` a row for each hold and each wait of the partition, in no order. After a refusal
+    /// some rows may have been added.
     pub(super) fn push_rows(&self, rows: &mut Vec<TableRow>) -> Result<(), NoMemory>
         ensures ok { OnOk result (AppendsRows rows.old.items rows.new.items
             (λ row. if has_row (content_of self.now) row then 1 else 0)) }

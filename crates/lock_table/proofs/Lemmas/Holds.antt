@@ -15,7 +15,8 @@ pub record IsTheHold (s : ℕ) (t : Tag) (m : Mode) (k : ℕ) (o : Tag) (n : Mod
   pub tag : o ≡ t
   pub mode : n ≡ m
 
--- What the holds with one set read at a hold: the value set at that very one, and the old value at each other.
+-- What the holds with one set read at a hold: the value set at that very one, and the old value at each
+-- other.
 pub data SetHoldAt (h : Holds) (s : ℕ) (t : Tag) (m : Mode) (b : Bool) (k : ℕ) (o : Tag) (n : Mode) : Type 0 where
   here : IsTheHold s t m k o n → set_hold h s t m b k o n ≡ b → SetHoldAt h s t m b k o n
   elsewhere : (IsTheHold s t m k o n → ⊥) → set_hold h s t m b k o n ≡ h k o n → SetHoldAt h s t m b k o n
@@ -62,7 +63,8 @@ set_hold-here h s t m b = at (set_hold-at h s t m b s t m) where
   at (here it is) = is
   at (elsewhere not_it is) = absurd (not_it (record { session = refl; tag = refl; mode = refl }))
 
--- A hold that is there after one was taken away was there; each that was is there after one was added, and no other but that.
+-- A hold that is there after one was taken away was there; each that was is there after one was added, and no
+-- other but that.
 pub set_hold-was : (h : Holds) (s : ℕ) (t : Tag) (m : Mode) (o : Tag) (n : Mode) → set_hold h s t m false s o n ≡ true → h s o n ≡ true
 set_hold-was h s t m o n has = at (set_hold-at h s t m false s o n) where
   at : SetHoldAt h s t m false s o n → h s o n ≡ true

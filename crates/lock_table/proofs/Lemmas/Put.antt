@@ -5,7 +5,8 @@ use Rattle.std.proofs.lemmas.List.{get_or-set_same, get_or-set_other}
 use Rattle.std.proofs.lemmas.Bool.{cases_eq, eq-eqb, ne_eqb, cond-true, cond-false}
 use Rattle.lock_table.specs.Put.{put, set_at}
 
--- A changed function has the new value where the test takes the arguments for the same, and the old one elsewhere.
+-- A changed function has the new value where the test takes the arguments for the same, and the old one
+-- elsewhere.
 pub put_here : {K A : Type 0} (same : K → K → Bool) (f : K → A) (k : K) (a : A) (j : K) → same j k ≡ true → put same f k a j ≡ a
 put_here same f k a j e = cond-true (same j k) a (f j) e
 
@@ -66,8 +67,8 @@ column-else f s p a q n k =
 pub row-else : {A : Type 0} (f : ℕ → ℕ → A) (s p : ℕ) (a : A) (k q : ℕ) → k ≢ s → set_at f s (set_at (f s) p a) k q ≡ f k q
 row-else f s p a k q n = ap (λ row. row q) (set_at-else f s (set_at (f s) p a) k n)
 
--- A list written at one place, read as a function, is the function changed there, wherever what stands in the list is of what
--- the function gives.
+-- A list written at one place, read as a function, is the function changed there, wherever what stands in the
+-- list is of what the function gives.
 pub written-at : {X Y : Type 0} (Of : X → Y → Type 0) (xs : List X) (k : ℕ) (x d : X) (f : ℕ → Y) (y : Y) → k < length xs → Of x y
     → (j : ℕ) → Of (get_or xs j d) (f j) → Of (get_or (set xs k x) j d) (set_at f k y j)
 written-at Of xs k x d f y within now j before =

@@ -153,7 +153,8 @@ NoneFreeBehind-removed ahead holds s t m (w ∷ queue) quiet none =
       at calm free k n other held (here it is) = ap (conflict w.mode) it.mode ∙ conflict_comm w.mode m ∙ calm
       at calm free k n other held (elsewhere not_it is) = free.beside_holders k n other (is ∙ held)
 
--- A wakeup after a change of the session's own holds grants none of its own waits: what was in its way is still there.
+-- A wakeup after a change of the session's own holds grants none of its own waits: what was in its way is
+-- still there.
 pub none_of_its_own : (before ahead : List Wait) (old holds : Holds) (s : ℕ) (t : Tag) (queue granted left : List Wait)
     → ((k : ℕ) (n : Mode) → k ≢ s → old k t n ≡ true → holds k t n ≡ true)
     → ((m : Mode) → NoConflictingHolder holds s t m → some_awaits_conflict ahead m ≡ false → some_awaits_conflict before m ≡ false)

@@ -80,8 +80,8 @@ hold_all-push : (granted : List Wait) (holds : Holds) (t : Tag) (w : Wait) → h
 hold_all-push [] holds t w = refl
 hold_all-push (v ∷ granted) holds t w = hold_all-push granted (set_hold holds v.session t v.mode true) t w
 
--- How far a wakeup has come, from these lists at first: what are the holds now, which waits it has passed and which are still to
--- come, and whom it woke.
+-- How far a wakeup has come, from these lists at first: what are the holds now, which waits it has passed and
+-- which are still to come, and whom it woke.
 pub record Waking (hs0 : List Request) (ws0 : List PartWait) (t : Tag) (hs : List Request) (done todo : List PartWait) (woken : List (ℕ × Mode)) : Type 0 where
   pub granted : List Wait
   pub told : woken ≡ map whose_and_mode granted
@@ -231,7 +231,8 @@ Waking-end_at hs0 ws0 t hs ws i woken past so_far =
     subst (λ todo. Waking hs0 ws0 t hs ws todo woken) (drop_all i ws past)
     (subst (λ done. Waking hs0 ws0 t hs done (drop i ws) woken) (take_all i ws past) so_far)
 
--- The two lists have the same requests at the end as at first, and each session one wait at most on an object.
+-- The two lists have the same requests at the end as at first, and each session one wait at most on an
+-- object.
 pub same_requests-end :
     (hs0 : List Request) (ws0 : List PartWait) (t : Tag) (hs : List Request) (ws : List PartWait) (woken : List (ℕ × Mode)) →
     Waking hs0 ws0 t hs ws [] woken → (s : ℕ) (o : Tag) (m : Mode) → times_in hs ws s o m ≡ times_in hs0 ws0 s o m

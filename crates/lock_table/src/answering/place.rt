@@ -5,8 +5,8 @@ use crate::answering::walk::{Walk, is_against, walk_until};
 use crate::part_table::PartTable;
 use modes_core::{Mode, SessionId, Tag};
 
-/// The answer to a request of `session` for `tag` in `mode` that something in `part` is in the way of, by the modes in which
-/// `session` holds the object (the early insertion of `ProcSleep` in proc.c).
+/// The answer to a request of `session` for `tag` in `mode` that something in `part` is in the way of, by the
+/// modes in which `session` holds the object (the early insertion of `ProcSleep` in proc.c).
 pub fn answer_by_place<P: PartTable>(part: &P, session: SessionId, tag: &Tag, mode: Mode) -> Answer
     ensures { AnswerByPlace (P.content part.now) session tag.now mode result }
 {

@@ -27,8 +27,8 @@ pub fn is_against(mode: Mode, modes: ModeSet) -> bool
     modes.meets(conflicts(mode))
 }
 
-/// Walks along the wait queue of `tag` in `part`, from the front up to the first waiter whose mode conflicts with one of
-/// `modes` (the loop over `waitProcs` of `ProcSleep` in proc.c).
+/// Walks along the wait queue of `tag` in `part`, from the front up to the first waiter whose mode conflicts
+/// with one of `modes` (the loop over `waitProcs` of `ProcSleep` in proc.c).
 #[inline(always)]
 pub fn walk_until<P: PartTable>(part: &P, tag: &Tag, modes: ModeSet) -> Walk
     ensures { WalksUntil (set_has modes) ((P.content part.now).waits tag.now) result }

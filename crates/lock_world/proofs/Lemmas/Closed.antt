@@ -35,7 +35,8 @@ lives w s safe step = inl (makes_steps step tt).live
 stepping : (w : World) (s : ℕ) (step : Step) (v : World) → SafeWorld w → HappensStep w s step v → LivesOrCloses w s v
 stepping w s step v safe h = after_each w s (λ _ u. LivesOrCloses w s u) (lives w s safe) step v h
 
--- What a session remembers of its slots, whom it has to tell and its trace are not there where its number is not live.
+-- What a session remembers of its slots, whom it has to tell and its trace are not there where its number is
+-- not live.
 record IsForgotten (a : Account) : Type 0 where
   remembered : a.fast.remembered ≡ (λ _. 0)
   off : a.lists.off ≡ (λ _. false)

@@ -125,7 +125,8 @@ module _ (w : World) (safe : SafeWorld w) where
       let awaits : is_for (w.sessions.awaited s) found.0.tag found.0.mode ≡ true = ap (λ a. is_for a found.0.tag found.0.mode) found.1 ∙ is_for-itself found.0 in
       (found.0, found.1, found.2, safe.order.awaited_is_not_own s found.0.tag found.0.mode awaits)
 
-  -- Where a session has read a counter as 0, nobody has a strong mode on an object of its index, nor awaits one.
+  -- Where a session has read a counter as 0, nobody has a strong mode on an object of its index, nor awaits
+  -- one.
   pub permitted-none : (s o : ℕ) (t : Tag) (m : Mode) → w.sessions.zero s ≡ Some (index_of t) → is_strong_on t m ≡ true
       → (w.sessions.own o t m ≡ false) × (is_for (w.sessions.awaited o) t m ≡ false)
   permitted-none s o t m read strong = (

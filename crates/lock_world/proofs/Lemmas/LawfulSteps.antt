@@ -24,8 +24,8 @@ use Rattle.lock_world.specs.Happens.Counters.{MayCount, after_counting, MayUncou
 use Rattle.lock_world.specs.Happens.Transfers.{MayTransfer, after_transferring}
 use Rattle.lock_world.specs.Happens.Lists.{MayLockList, after_locking_partition_list, after_locking_fast_list, HasList, after_unlocking_partition_list, after_unlocking_fast_list, MayJoinList, after_joining_list, MayLeaveList, after_leaving_the_list, MayTakeOff, after_taking_off_the_list, MayTell, after_telling_one, MayLoadSleep, after_loading_sleep, MaySetReleaseOk, MaySetHasWaiters, after_flagging_partition, after_flagging_fast}
 
--- The lawful steps of a session, one case for each way to make one. A lemma on what a step leads to names the cases that matter
--- to it, and has all others in one row.
+-- The lawful steps of a session, one case for each way to make one. A lemma on what a step leads to names the
+-- cases that matter to it, and has all others in one row.
 
 -- A step that the session may make in the World w, with why it may.
 pub data LawfulStep (w : World) (s : ℕ) : Type 0 where

@@ -105,7 +105,8 @@ first : (w : World) (event : Event) (v : World) (k : ℕ) (o : Tag) (m : Mode) �
 first w event v k o m safe next there (inl shown) = absurd (stays-out w v event k o m safe next there shown)
 first w event v k o m safe next there (inr stands) = stands
 
--- A hold that stands in a slot or in a content all the way, and in a content at first, stands in a content all the way.
+-- A hold that stands in a slot or in a content all the way, and in a content at first, stands in a content
+-- all the way.
 pub stays-in_content :
     (w : World) (events : List Event) (worlds : List World) (k : ℕ) (o : Tag) (m : Mode) → SafeWorld w → RunsThrough w events worlds
     → (w.contents.now (partition_of o)).holds k o m ≡ true
@@ -119,7 +120,8 @@ stays-in_content w (event ∷ events) (v ∷ worlds) k o m safe run there stands
 stays-in_content w (event ∷ events) (v ∷ worlds) k o m safe run there stands (suc place) u at =
     stays-in_content v events worlds k o m (Next-safe w event v safe run.0) run.1 (first w event v k o m safe run.0 there (stands 0 v refl)) (λ i z. stands (suc i) z) place u at
 
--- A hold that a load of its slot does not show, while it stands there or in a content, stands in the content of its object's partition.
+-- A hold that a load of its slot does not show, while it stands there or in a content, stands in the content
+-- of its object's partition.
 unshown-in_content : (w : World) (s i n : ℕ) (t : Tag) (m : Mode) → SafeWorld w → n ≡ w.words.slot s i → shows n (relation_of t) m ≡ false → StandsThereOrInContent w s t m i
     → (w.contents.now (partition_of t)).holds s t m ≡ true
 unshown-in_content w s i n t m safe loaded unshown (inl there) =
@@ -136,7 +138,8 @@ last-there w (u ∷ worlds) =
       | inr found ↦ inr (suc found.0, found.1)
     ]
 
--- So whoever takes the partition after a run in which it stands in a slot or in a content all the way takes a content that has it.
+-- So whoever takes the partition after a run in which it stands in a slot or in a content all the way takes a
+-- content that has it.
 pub taken-has :
     (w v u : World) (lister s i n taker : ℕ) (t : Tag) (m : Mode) (events : List Event) (worlds : List World) → SafeWorld w
     → HappensStep w lister (LoadWord (Slot s i) n) v → shows n (relation_of t) m ≡ false → StandsThereOrInContent v s t m i → RunsThrough v events worlds

@@ -20,7 +20,8 @@ use Rattle.lock_world.proofs.Lemmas.Headline.{clash-in_the_way}
 use Rattle.lock_world.proofs.Lemmas.SafeWorld.Runs.{through-safe}
 use Rattle.lock_world.proofs.Lemmas.Telling.{each-told}
 
--- A refusal saw what it names: who is in the way in the content that was taken stands there in the World in which that was taken.
+-- A refusal saw what it names: who is in the way in the content that was taken stands there in the World in
+-- which that was taken.
 
 there-as : (w : World) → SafeWorld w → (taken : Content) (s : ℕ) (t : Tag) → taken ≡ w.contents.now (partition_of t) → waits_there (taken.waits t) s ≡ false
     → (how : How) (other : ℕ) (its : Mode) → IsThereAs how taken s t other its → (other ≢ s) × StandsOrAwaits how w other t its

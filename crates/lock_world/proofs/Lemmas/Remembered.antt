@@ -14,10 +14,11 @@ use Rattle.lock_world.proofs.Lemmas.LawfulSteps.{LawfulStep, world_after, taking
 use Rattle.lock_world.proofs.Lemmas.SafeWorld.Opening.{opening-safe}
 use Rattle.lock_world.proofs.Lemmas.SafeWorld.Runs.{event-safe, Next-safe}
 
--- What a session remembers of its slots has one slot at most for a relation, and each in the relation's group: it is what its slots
--- showed at some time, and there are as many groups all the time.
+-- What a session remembers of its slots has one slot at most for a relation, and each in the relation's
+-- group: it is what its slots showed at some time, and there are as many groups all the time.
 
--- What a session remembers after a step: as before, or as its slots show then, or nothing. There are as many groups as before.
+-- What a session remembers after a step: as before, or as its slots show then, or nothing. There are as many
+-- groups as before.
 abbrev Follows : World → World → Type 0
 Follows w v =
     (v.numbers.groups ≡ w.numbers.groups)

@@ -14,7 +14,8 @@ use Rattle.lock_world.specs.Counted.{Counted, is_done, StrongIsDone, PastHasNoSl
 use Rattle.lock_world.proofs.Lemmas.Slots.Eligible.{held-is_in}
 use Rattle.lock_world.proofs.Lemmas.Counters.Passing.{is_at-past}
 
--- Slots against the lock table: a hold that a slot shows conflicts with nothing that any session has or awaits.
+-- Slots against the lock table: a hold that a slot shows conflicts with nothing that any session has or
+-- awaits.
 
 -- What conflicts with an eligible mode is strong: modes 1 to 3 conflict only with 5 to 8.
 pub conflict-strong : (database : ℕ) (tag : Tag) (mode its : Mode) → is_eligible_for database tag mode ≡ true → conflict mode its ≡ true → is_strong_on tag its ≡ true
@@ -25,7 +26,8 @@ conflict-strong database (Relation d r) mode its eligible clash =
 conflict-strong database (Object s d c o) mode its eligible clash = absurd (false≢true eligible)
 conflict-strong database (Advisory s d k l) mode its eligible clash = absurd (false≢true eligible)
 
--- A mode that is done where it is strong conflicts with no hold in a slot: its session is past whoever has the slot.
+-- A mode that is done where it is strong conflicts with no hold in a slot: its session is past whoever has
+-- the slot.
 slot-no_conflict :
     (limit : ℕ) (counted : ℕ → List Counted) (database : ℕ → ℕ) (slot : ℕ → ℕ → ℕ) (session other : ℕ) (tag : Tag) (mode its : Mode) →
     PastHasNoSlot counted (λ k. slot_holds (database k) (slot k)) → session < limit →
@@ -38,7 +40,8 @@ slot-no_conflict limit counted database slot session other tag mode its past bel
     let gone = past other session tag mode (is_at-past (counted other) tag its limit session below (done strong)) in
     both_ways (slot_holds (database session) (slot session) tag mode) gone held)
 
--- So where all strong modes are done, no hold in a slot conflicts with a hold of a session, nor with what it awaits.
+-- So where all strong modes are done, no hold in a slot conflicts with a hold of a session, nor with what it
+-- awaits.
 pub slot-no_conflict_own :
     (limit : ℕ) (counted : ℕ → List Counted) (own : Holds) (awaited : ℕ → Option OwnWait) (database : ℕ → ℕ) (slot : ℕ → ℕ → ℕ) →
     StrongIsDone limit counted own awaited → PastHasNoSlot counted (λ k. slot_holds (database k) (slot k)) →

@@ -16,8 +16,8 @@ use Rattle.lock_world.proofs.Lemmas.Others.Events.{event-others}
 use Rattle.lock_world.proofs.Lemmas.SafeWorld.Runs.{Next-safe}
 use Rattle.lock_world.proofs.Lemmas.LawfulSteps.{LawfulStep, world_after, taking_partition, putting_partition, putting_recorded, closing, asking_to_cancel, loading_wait, reading_counter, loading, after_each}
 
--- What a step makes of the trace of its session: it adds nothing, or one entry, which tells what is; or the session closes, and
--- its trace is forgotten.
+-- What a step makes of the trace of its session: it adds nothing, or one entry, which tells what is; or the
+-- session closes, and its trace is forgotten.
 abbrev pub AddsAtMostWhatIs : World → ℕ → World → Type 0
 AddsAtMostWhatIs w s v =
     (v.sessions.trace s ≡ w.sessions.trace s)
@@ -89,8 +89,8 @@ split-push (y ∷ xs) last (b ∷ before) x after e =
       | inr old ↦ inr (old.0, ap (λ z. z ∷ xs) same ∙ ap (λ z. b ∷ z) old.1)
     ]
 
--- The entry stood in the session's trace before the run, or tells what is in a World on the way, where the trace was just what
--- stands before the entry, and in the next one.
+-- The entry stood in the session's trace before the run, or tells what is in a World on the way, where the
+-- trace was just what stands before the entry, and in the next one.
 abbrev pub WasTold : World → List World → ℕ → List TraceEntry → TraceEntry → Type 0
 WasTold w worlds s before entry =
     (place : ℕ) × (u : World) × (next : World) × (slice_get (w ∷ worlds) place ≡ Some u) × (slice_get worlds place ≡ Some next)

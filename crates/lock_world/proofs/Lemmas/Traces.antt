@@ -178,7 +178,8 @@ module _ (contents : Contents) (trace : ℕ → List TraceEntry) (issued : ℕ) 
           | inr apart ↦ ap (λ hand. taken_in hand k) (sym (set_at-else contents.hand p None q apart))
         ]
 
-  -- A move is recorded in the hand that has the partition, and the content is what it makes of the content taken.
+  -- A move is recorded in the hand that has the partition, and the content is what it makes of the content
+  -- taken.
   pub TracesTell-record : (p : ℕ) (done : Move) (unmarked : ℕ → Bool) (content : Content) → HandIsOneMove p (recording (contents.hand p) done unmarked) content
       → TracesTell (record { now = set_at contents.now p content; hand = set_at contents.hand p (recording (contents.hand p) done unmarked) }) trace issued
   TracesTell-record p done unmarked content made = record {

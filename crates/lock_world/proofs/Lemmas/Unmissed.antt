@@ -18,8 +18,8 @@ use Rattle.lock_world.proofs.Lemmas.SafeWorld.Runs.{Next-safe}
 use Rattle.lock_world.proofs.Lemmas.Listing.{stays-in_content}
 use Rattle.lock_world.proofs.Lemmas.Telling.{not-none, told-or-stood}
 
--- What a session loads and takes, one after another, as its trace has it: a hold that stands in one slot or in a content all the
--- while was seen in the slot, or is in the content that is taken last.
+-- What a session loads and takes, one after another, as its trace has it: a hold that stands in one slot or
+-- in a content all the while was seen in the slot, or is in the content that is taken last.
 
 -- ---- runs from one of their Worlds on
 
@@ -70,8 +70,8 @@ too-long : {A : Type 0} (xs ys : List A) (x : A) (zs : List A) → xs ≡ (xs ++
 too-long [] ys x zs e = not-none ys x zs e
 too-long (y ∷ xs) ys x zs e = let rest : xs ≡ (xs ++ ys) ++ x ∷ zs = cc (e) in too-long xs ys x zs rest
 
--- An entry that the trace has not yet, and has at the end of the run, tells what is in a World on the way, from which the run goes on,
--- and in the one after it.
+-- An entry that the trace has not yet, and has at the end of the run, tells what is in a World on the way,
+-- from which the run goes on, and in the one after it.
 record IsTold (w : World) (worlds : List World) (last : World) (s : ℕ) (before : List TraceEntry) (entry : TraceEntry) : Type 0 where
   at : World
   on : GoesOn w worlds last at

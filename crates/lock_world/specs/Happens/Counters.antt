@@ -10,8 +10,8 @@ use Rattle.lock_world.specs.Counted.{counting, uncounting, passing, is_counted, 
 use Rattle.lock_world.specs.World.{World, MakesSteps}
 use Rattle.lock_world.specs.Happens.Slots.{zero_after_putting}
 
--- Counters: a session counts a strong lock before it asks for it, goes past each session that has no slot on the object, and
--- counts the lock no more once it neither has it nor awaits it.
+-- Counters: a session counts a strong lock before it asks for it, goes past each session that has no slot on
+-- the object, and counts the lock no more once it neither has it nor awaits it.
 
 -- how many strong locks a session may have counted
 abbrev pub most_counted : ℕ
@@ -53,8 +53,8 @@ after_uncounting w session tag mode = record {
   numbers = w.numbers;
 }
 
--- Going past a session: its lock is put, and it has no slot on the object (a turn of the loop of FastPathTransferRelationLocks
--- in lock.c). It is the next one, issued or not, its own too.
+-- Going past a session: its lock is put, and it has no slot on the object (a turn of the loop of
+-- FastPathTransferRelationLocks in lock.c). It is the next one, issued or not, its own too.
 pub record MayPass (w : World) (session owner : ℕ) (tag : Tag) (mode : Mode) : Type 0 where
   pub steps : MakesSteps w.numbers session
   pub holding : w.sessions.holds_fast session owner ≡ true

@@ -6,8 +6,9 @@ use Rattle.lock_table.specs.Put.{set_at}
 use Rattle.lock_world.specs.World.{World, Numbers, MakesSteps}
 use Rattle.lock_world.specs.WaitLists.{Sleepers, partition_lock, fast_lock, after_joining, after_leaving_list, after_taking_off, after_telling, after_seeing_none}
 
--- Wait lists of lightweight locks: a session locks a list by a bit of the lock's word, changes it, and unlocks it; and it sleeps,
--- and is woken, by its sleep word (LWLockWaitListLock, LWLockQueueSelf, LWLockDequeueSelf and LWLockWakeup in lwlock.c).
+-- Wait lists of lightweight locks: a session locks a list by a bit of the lock's word, changes it, and
+-- unlocks it; and it sleeps, and is woken, by its sleep word (LWLockWaitListLock, LWLockQueueSelf,
+-- LWLockDequeueSelf and LWLockWakeup in lwlock.c).
 
 -- the lists, the sleep words and who stands where, as a World has them
 abbrev pub sleepers : World → Sleepers
@@ -22,7 +23,8 @@ with_lists w partition fast s has_list = record {
   numbers = w.numbers;
 }
 
--- Locking a list whose lock has this word: nobody has it, and the session has none in hand (LWLockWaitListLock).
+-- Locking a list whose lock has this word: nobody has it, and the session has none in hand
+-- (LWLockWaitListLock).
 pub record MayLockList (numbers : Numbers) (word : ℕ) (has_list : ℕ → Option ℕ) (session : ℕ) : Type 0 where
   pub steps : MakesSteps numbers session
   pub unlocked : word / 2 ^ 28 % 2 ≡ 0
@@ -57,7 +59,8 @@ after_unlocking_fast_list w session owner has_waiters release_ok =
     with_lists w w.words.partition (set_at w.words.fast owner (list_unlocked_word (w.words.fast owner) has_waiters release_ok))
     (sleepers w) (set_at w.sessions.has_list session None)
 
--- Changing the list in hand, or telling a session that was taken off a list, leaves words and hands as they are.
+-- Changing the list in hand, or telling a session that was taken off a list, leaves words and hands as they
+-- are.
 abbrev pub with_sleepers : World → Sleepers → World
 with_sleepers w s = with_lists w w.words.partition w.words.fast s w.sessions.has_list
 
@@ -110,7 +113,8 @@ pub record MayLoadSleep (w : World) (session shown : ℕ) : Type 0 where
 abbrev pub after_loading_sleep : World → ℕ → ℕ → World
 after_loading_sleep w session shown = with_sleepers w (if shown == 0 then after_seeing_none (sleepers w) session else sleepers w)
 
--- Setting release-ok in a lock's word, which showed this before: a session that was woken does so, as it goes on.
+-- Setting release-ok in a lock's word, which showed this before: a session that was woken does so, as it goes
+-- on.
 pub record MaySetReleaseOk (numbers : Numbers) (word session shown : ℕ) : Type 0 where
   pub steps : MakesSteps numbers session
   pub is_word : shown ≡ word

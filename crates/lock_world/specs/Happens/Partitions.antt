@@ -38,8 +38,8 @@ after_taking_partition w session partition = record {
 abbrev pub HappensTakingPartition : World → ℕ → ℕ → World → Type 0
 HappensTakingPartition w session partition v = MayTakePartition w session partition × (v ≡ after_taking_partition w session partition)
 
--- The session has the partition in hand, has made no move on it, and this one leads to the content and grants these waits. A
--- strong mode that it grants or queues is counted, and past each session.
+-- The session has the partition in hand, has made no move on it, and this one leads to the content and grants
+-- these waits. A strong mode that it grants or queues is counted, and past each session.
 pub record MayMove (w : World) (session partition : ℕ) (done : Move) (granted : List content.Wait) (content : Content) : Type 0 where
   pub steps : MakesSteps w.numbers session
   pub holding : w.sessions.holds_partition session partition ≡ true
@@ -92,8 +92,8 @@ after_putting_partition w session partition done content = record {
   numbers = w.numbers;
 }
 
--- Putting a partition with the move recorded in the hand: all whom it granted are marked, and after a leave the session
--- has no wait on an object of the partition.
+-- Putting a partition with the move recorded in the hand: all whom it granted are marked, and after a leave
+-- the session has no wait on an object of the partition.
 abbrev pub WaitIsOver : Option OwnWait → ℕ → Move → Type 0
 WaitIsOver awaited partition Keep = Unit {0}
 WaitIsOver awaited partition (Grant tag mode) = Unit {0}

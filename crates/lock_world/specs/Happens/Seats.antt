@@ -38,8 +38,8 @@ abbrev pub HappensSplitting : World → ℕ → World → Type 0
 HappensSplitting w session v =
     (MayBeIssued w session × (v ≡ after_issuing w session)) ⊎ (MayGoOn w session × (v ≡ after_going_on w session))
 
--- Being kept apart: by another session that makes steps of its own, and with no word held, exclusively or shared, since a session that is kept apart
--- makes no step that would put it.
+-- Being kept apart: by another session that makes steps of its own, and with no word held, exclusively or
+-- shared, since a session that is kept apart makes no step that would put it.
 pub record MayBeKeptApart (w : World) (session joiner : ℕ) : Type 0 where
   pub steps : MakesSteps w.numbers session
   pub another : joiner ≢ session
@@ -58,8 +58,9 @@ after_keeping_apart w session joiner = record {
   numbers = record (w.numbers) { kept_by = set_at w.numbers.kept_by session (Some joiner) };
 }
 
--- Closing: with no word held, exclusively or shared, no hold, no wait, nothing counted, no wait list in hand nor one that the
--- session stands in, nobody whom it took off a list and hasn't told, and no other session kept apart.
+-- Closing: with no word held, exclusively or shared, no hold, no wait, nothing counted, no wait list in hand
+-- nor one that the session stands in, nobody whom it took off a list and hasn't told, and no other session
+-- kept apart.
 pub record MayClose (w : World) (session : ℕ) : Type 0 where
   pub steps : MakesSteps w.numbers session
   pub no_word : (partition : ℕ) → w.sessions.holds_partition session partition ≡ false
@@ -74,8 +75,8 @@ pub record MayClose (w : World) (session : ℕ) : Type 0 where
   pub none_untold : (other : ℕ) → w.sessions.off session other ≡ false
   pub keeps_nobody : (other : ℕ) → w.numbers.kept_by other ≢ Some session
 
--- A closed session has an account with nothing in it: it remembers nothing of its slots, of which none is in use, nobody whom it
--- took off a list, and no step.
+-- A closed session has an account with nothing in it: it remembers nothing of its slots, of which none is in
+-- use, nobody whom it took off a list, and no step.
 abbrev pub after_closing : World → ℕ → World
 after_closing w session = record {
   words = w.words;

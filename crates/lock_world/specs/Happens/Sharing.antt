@@ -48,7 +48,8 @@ HappensUnsharingPartition w session partition v =
     MayUnshare w.numbers w.sessions.shares_partition session partition
     × (v ≡ after_unsharing_partition w session partition)
 
--- the World with this word of the lock of a session's fast-path slots, which the session shares or not, and with what it remembers of its slots
+-- the World with this word of the lock of a session's fast-path slots, which the session shares or not, and
+-- with what it remembers of its slots
 abbrev pub with_shared_fast : World → ℕ → ℕ → ℕ → Bool → (ℕ → ℕ → ℕ) → World
 with_shared_fast w session owner word shares remembered = record {
   words = record (w.words) { fast = set_at w.words.fast owner word };
@@ -60,8 +61,8 @@ with_shared_fast w session owner word shares remembered = record {
   numbers = w.numbers;
 }
 
--- The word of the lock of a session's fast-path slots. While it is shared the slots stay as they show, so a session that shares its own remembers
--- them from then on so, as by taking it.
+-- The word of the lock of a session's fast-path slots. While it is shared the slots stay as they show, so a
+-- session that shares its own remembers them from then on so, as by taking it.
 abbrev pub after_sharing_fast : World → ℕ → ℕ → World
 after_sharing_fast w session owner =
     with_shared_fast w session owner (shared_word (w.words.fast owner)) true (remembered_after_taking w.sessions.remembered w.words.slot session owner)

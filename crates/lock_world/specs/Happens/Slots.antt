@@ -11,8 +11,8 @@ use Rattle.lock_world.specs.declared.events.Word.TheVariants.{Strong}
 use Rattle.lock_world.specs.SlotHolds.{relation_of, IsHeldIn, NoSlotInUse, IsSlotToGrant}
 use Rattle.lock_world.specs.World.{World, MakesSteps, Loaded, word_in, WordExists}
 
--- Slots: a session takes the lock of its own fast-path slots, or of another's, and puts it back (fpInfoLock in proc.h); with
--- its own lock held it reads strong lock counters, and sets and clears modes in its slots.
+-- Slots: a session takes the lock of its own fast-path slots, or of another's, and puts it back (fpInfoLock
+-- in proc.h); with its own lock held it reads strong lock counters, and sets and clears modes in its slots.
 
 -- Taking the lock of a session's slots, issued or not: its word shows that nobody holds it.
 pub record MayTakeFast (w : World) (session owner : ℕ) : Type 0 where
@@ -25,8 +25,8 @@ abbrev pub remembered_after_taking : (ℕ → ℕ → ℕ) → (ℕ → ℕ → 
 remembered_after_taking remembered slot session owner =
     if owner == session then set_at remembered session (slot owner) else remembered
 
--- the World with this word of the lock of a session's slots, which the session holds or not, and with the counters read as 0 and the slots as
--- remembered then
+-- the World with this word of the lock of a session's slots, which the session holds or not, and with the
+-- counters read as 0 and the slots as remembered then
 abbrev pub with_held_fast : World → ℕ → ℕ → ℕ → Bool → (ℕ → Option ℕ) → (ℕ → ℕ → ℕ) → World
 with_held_fast w session owner word holds zero remembered = record {
   words = record (w.words) { fast = set_at w.words.fast owner word };
@@ -49,7 +49,8 @@ after_taking_fast w session owner =
 abbrev pub HappensTakingFast : World → ℕ → ℕ → World → Type 0
 HappensTakingFast w session owner v = MayTakeFast w session owner × (v ≡ after_taking_fast w session owner)
 
--- Putting the lock of a session's slots. A counter read as 0 before permits no more slot to be set once its own lock is put.
+-- Putting the lock of a session's slots. A counter read as 0 before permits no more slot to be set once its
+-- own lock is put.
 pub record MayPutFast (w : World) (session owner : ℕ) : Type 0 where
   pub steps : MakesSteps w.numbers session
   pub holding : w.sessions.holds_fast session owner ≡ true
@@ -82,13 +83,15 @@ after_loading w session word shown = record {
   numbers = w.numbers;
 }
 
--- Reading a strong lock counter: where it is 0, and the session holds the lock of its own slots, it may set slots for objects
--- of that index until it puts that lock (FastPathStrongRelationLocks->count in LockAcquireExtended of lock.c).
+-- Reading a strong lock counter: where it is 0, and the session holds the lock of its own slots, it may set
+-- slots for objects of that index until it puts that lock (FastPathStrongRelationLocks->count in
+-- LockAcquireExtended of lock.c).
 abbrev pub zero_after_reading : (ℕ → Option ℕ) → (ℕ → ℕ → Bool) → ℕ → ℕ → ℕ → ℕ → Option ℕ
 zero_after_reading zero holds_fast session index shown =
     if (shown == 0) && holds_fast session session then set_at zero session (Some index) else zero
 
--- the World once a strong lock counter is loaded, and kept where it is 0 and the lock of the own slots is held
+-- the World once a strong lock counter is loaded, and kept where it is 0 and the lock of the own slots is
+-- held
 abbrev pub after_reading_counter : World → ℕ → ℕ → ℕ → World
 after_reading_counter w session index shown = record {
   words = w.words;
@@ -100,8 +103,8 @@ after_reading_counter w session index shown = record {
   numbers = w.numbers;
 }
 
--- Setting a mode in one of one's own slots (FastPathGrantRelationLock in lock.c): the mode on the object is eligible for its own database,
--- its counter was read as 0, and the slot is the one that such a grant takes.
+-- Setting a mode in one of one's own slots (FastPathGrantRelationLock in lock.c): the mode on the object is
+-- eligible for its own database, its counter was read as 0, and the slot is the one that such a grant takes.
 pub record MaySetSlot (w : World) (session place : ℕ) (tag : Tag) (mode : Mode) : Type 0 where
   pub steps : MakesSteps w.numbers session
   pub holding : w.sessions.holds_fast session session ≡ true
@@ -150,7 +153,8 @@ after_clearing_slot w session place tag mode = record {
   numbers = w.numbers;
 }
 
--- Storing one's own database with no slot in use: the first one (InitPostgres in postinit.c), or that of the next one whom the session serves.
+-- Storing one's own database with no slot in use: the first one (InitPostgres in postinit.c), or that of the
+-- next one whom the session serves.
 pub record MayStoreDatabase (w : World) (session : ℕ) : Type 0 where
   pub steps : MakesSteps w.numbers session
   pub unused : NoSlotInUse (w.words.slot session)

@@ -12,8 +12,8 @@ use Rattle.lock_world.specs.Counted.{is_at}
 use Rattle.lock_world.specs.World.{World, MakesSteps, recorded_in, is_unmarked}
 use Rattle.lock_world.specs.Happens.Waits.{recording}
 
--- Transfers: with a strong lock counted and a session next on its way, the session moves that session's holds on the object
--- from the slot to the lock table, one mode a step, before it goes past it.
+-- Transfers: with a strong lock counted and a session next on its way, the session moves that session's holds
+-- on the object from the slot to the lock table, one mode a step, before it goes past it.
 
 -- A partition in hand has no move recorded, or the adopt of this slot.
 abbrev pub MayAdopt : Option Move → ℕ → ℕ → Type 0
@@ -21,7 +21,8 @@ MayAdopt None owner slot = Unit {0}
 MayAdopt (Some done) owner slot = done ≡ Adopt owner slot
 
 -- Moving a mode that a slot has to the content of the object's partition (a mode of the inner loop of
--- FastPathTransferRelationLocks in lock.c). Both locks are held, and the owner is next; that may be the session itself.
+-- FastPathTransferRelationLocks in lock.c). Both locks are held, and the owner is next; that may be the
+-- session itself.
 pub record MayTransfer (w : World) (session owner place : ℕ) (tag : Tag) (mode strong : Mode) : Type 0 where
   pub steps : MakesSteps w.numbers session
   pub holding_slots : w.sessions.holds_fast session owner ≡ true

@@ -13,8 +13,8 @@ use Rattle.lock_world.specs.World.{World, Hand, MakesSteps, recorded_in, is_unma
 use Rattle.lock_table.specs.Put.{set_at}
 use Rattle.lock_world.specs.Happens.Partitions.{MayMove, own_after}
 
--- Waits: steps on wait words. A join, a leave and a release that wakes somebody are made by such a step, and stand recorded in
--- the hand until the partition is put back.
+-- Waits: steps on wait words. A join, a leave and a release that wakes somebody are made by such a step, and
+-- stand recorded in the hand until the partition is put back.
 
 -- Asking a session to cancel: any number, issued or not, closed or not, its own too.
 abbrev pub after_asking : World → ℕ → ℕ → World
@@ -27,7 +27,8 @@ after_asking w session other = record {
   numbers = w.numbers;
 }
 
--- Loading one's own wait word: the value shown is the whole word, and a session sees so that its wait was granted.
+-- Loading one's own wait word: the value shown is the whole word, and a session sees so that its wait was
+-- granted.
 pub record MayLoadWait (w : World) (session shown : ℕ) : Type 0 where
   pub steps : MakesSteps w.numbers session
   pub is_word : shown ≡ w.words.wait session
@@ -75,8 +76,8 @@ HappensSetting w session tag mode v =
     (content : Content) × MayMove w session (partition_of tag) (Join tag mode) [] content
     × (v ≡ after_setting_waiting w session tag mode content)
 
--- Marking the wait of another session granted, which waits: by the first such step the move is made; by each further one
--- one more of those whom it granted is marked, until nobody is unmarked.
+-- Marking the wait of another session granted, which waits: by the first such step the move is made; by each
+-- further one one more of those whom it granted is marked, until nobody is unmarked.
 pub record MayMark (w : World) (session other : ℕ) : Type 0 where
   pub another : other ≢ session
   pub waiting : wait_state (w.words.wait other) ≡ 1
@@ -135,8 +136,8 @@ HappensMarking w session other (Release tag mode) v = HappensMarkingIn w session
 HappensMarking w session other (Leave tag) v = HappensMarkingIn w session other (partition_of tag) (Leave tag) v
 HappensMarking w session other (Adopt owner slot) v = ⊥
 
--- Clearing one's own wait word: the session has seen the grant, or it has the partition in hand and its wait is not in the
--- queue. What was granted is its own from then on.
+-- Clearing one's own wait word: the session has seen the grant, or it has the partition in hand and its wait
+-- is not in the queue. What was granted is its own from then on.
 pub record MayClearSeen (w : World) (session : ℕ) (wait : OwnWait) : Type 0 where
   pub steps : MakesSteps w.numbers session
   pub is_wait : w.sessions.awaited session ≡ Some wait

@@ -5,7 +5,8 @@ use Rattle.lock_world.specs.declared.events.Step.TheVariants.{AskCancel, LoadWai
 use Rattle.lock_world.specs.World.{World}
 use Rattle.lock_world.specs.WaitWord.{wait_state}
 
--- Calls: a session parks on a word of its own, wait word or sleep word, and a session that changes that word calls it.
+-- Calls: a session parks on a word of its own, wait word or sleep word, and a session that changes that word
+-- calls it.
 
 -- What a session parks on: its wait word shows that it waits.
 abbrev pub ShowsWaiting : ℕ → Type 0
@@ -24,14 +25,15 @@ pub record Calls : Type 0 where
   -- whom each session has still to call
   pub owed : ℕ → ℕ → Bool
 
--- Where a session's word is not what the session loaded any more, to park on, it was called since, or somebody has it to call.
+-- Where a session's word is not what the session loaded any more, to park on, it was called since, or
+-- somebody has it to call.
 abbrev pub EachIsCalled : (ℕ → Type 0) → (ℕ → ℕ) → Calls → Type 0
 EachIsCalled ParksOn word c =
     (session shown : ℕ) → c.looked session ≡ Some shown → ParksOn shown
     → (word session ≡ shown) ⊎ ((c.called session ≡ true) ⊎ ((other : ℕ) × (c.owed other session ≡ true)))
 
--- The session is parked: the kernel found its word as the session had loaded it, and nobody has called it since. The session has nobody
--- to call.
+-- The session is parked: the kernel found its word as the session had loaded it, and nobody has called it
+-- since. The session has nobody to call.
 pub record IsParked (ParksOn : ℕ → Type 0) (c : Calls) (session shown : ℕ) : Type 0 where
   pub looked : c.looked session ≡ Some shown
   pub parks_on : ParksOn shown
@@ -59,7 +61,8 @@ abbrev pub shows_looked : Option ℕ → ℕ → Bool
 shows_looked None word = false
 shows_looked (Some shown) word = word == shown
 
--- The session calls `other`, and owes it no call any more. A call before the word changed counts for nothing: the other may park after it.
+-- The session calls `other`, and owes it no call any more. A call before the word changed counts for nothing:
+-- the other may park after it.
 abbrev pub calling : (ℕ → ℕ) → Calls → ℕ → ℕ → Calls
 calling word c session other = record c {
   called = set_at c.called other (c.called other || not (shows_looked (c.looked other) (word other)));

@@ -4,7 +4,8 @@ use Rattle.lock_table.specs.Put.{set_at}
 use Rattle.lock_world.specs.WaitLists.{after_joining, after_leaving_list, after_taking_off, after_telling, after_seeing_none}
 use Rattle.lock_world.specs.Wakes.Waking.{Waking}
 
--- What each kind of step makes of the waiting for lightweight locks, and of what its session has to do for those who wait.
+-- What each kind of step makes of the waiting for lightweight locks, and of what its session has to do for
+-- those who wait.
 
 -- the two flags that waking reads stay
 pub record WakeFlagsStay (old new : ℕ) : Type 0 where
@@ -46,7 +47,8 @@ list_seen_locked w session = record w { due = set_at w.due session None }
 abbrev pub list_unlocked : Waking → ℕ → ℕ → ℕ → Waking
 list_unlocked w session lock word = record w { word = set_at w.word lock word; has_list = set_at w.has_list session None }
 
--- Joining the list in hand: an attempt comes next, and release-ok is to be set once the session is off the list.
+-- Joining the list in hand: an attempt comes next, and release-ok is to be set once the session is off the
+-- list.
 abbrev pub list_joined : Waking → ℕ → LwWaiter → Waking
 list_joined w lock waiter = record w {
   sleepers = after_joining w.sleepers lock waiter;

@@ -13,8 +13,9 @@ use Rattle.lock_world.specs.Happens.Lists.{sleepers}
 use Rattle.lock_world.specs.Wakes.Waking.{Waking, TellsNobody, NoneOr, IsLeftWell, rank}
 use Rattle.lock_world.specs.Wakes.Calling.{Calls}
 
--- What each session still has to do for those who wait for lightweight locks: it stands beside the World, and each step makes of it
--- what is told here. And what each step has to keep to, so that nobody who sleeps is forgotten.
+-- What each session still has to do for those who wait for lightweight locks: it stands beside the World, and
+-- each step makes of it what is told here. And what each step has to keep to, so that nobody who sleeps is
+-- forgotten.
 
 -- Four things by session, as `Waking` tells them.
 pub record Duties : Type 0 where
@@ -55,7 +56,8 @@ HasIn w session lock =
     (lock_row w.sessions.holds_partition w.sessions.holds_fast session lock ≡ true)
     ⊎ (lock_row w.sessions.shares_partition w.sessions.shares_fast session lock ≡ true)
 
--- the lightweight lock that a word is, by its number; a word of another kind is none, and steps on locks are on none of those
+-- the lightweight lock that a word is, by its number; a word of another kind is none, and steps on locks are
+-- on none of those
 abbrev pub lock_of : Word → ℕ
 lock_of (Partition partition) = partition_lock partition
 lock_of (Fast owner) = fast_lock owner
@@ -106,7 +108,8 @@ ok_set_by_told x session lock = record x {
   tries = set_at x.tries session (Some lock);
 }
 
--- Release-ok is set by a session that has won the lock, and so has its list in hand and finds itself off it: it attempts nothing.
+-- Release-ok is set by a session that has won the lock, and so has its list in hand and finds itself off it:
+-- it attempts nothing.
 abbrev pub ok_set_by_winner : Duties → ℕ → Duties
 ok_set_by_winner x session = record x { owes_release_ok = set_at x.owes_release_ok session None }
 
@@ -149,7 +152,8 @@ pub record AsksLocking (w : World) (x : Duties) (session lock : ℕ) : Type 0 wh
   pub no_other : NoneOr (x.due session) lock
   pub tells_nobody : TellsNobody w.sessions.off session
 
--- Unlocking it: has-waiters goes only from an empty list, release-ok only where somebody was taken off; and the list is left well.
+-- Unlocking it: has-waiters goes only from an empty list, release-ok only where somebody was taken off; and
+-- the list is left well.
 pub record AsksUnlocking (w : World) (x : Duties) (session lock : ℕ) (has_waiters release_ok : Bool) : Type 0 where
   pub waiters_stay : (has_waiters ≡ true) ⊎ (w.words.list lock ≡ [])
   pub release_stays : (release_ok ≡ true) ⊎ ((other : ℕ) × (w.sessions.off session other ≡ true))
@@ -161,8 +165,8 @@ pub record AsksJoining (w : World) (x : Duties) (session : ℕ) : Type 0 where
   pub owes_no_ok : x.owes_release_ok session ≡ None
   pub no_other : (lock : ℕ) → w.sessions.has_list session ≡ Some lock → NoneOr (x.tries session) lock
 
--- Setting release-ok where the session owes it: if it was told, no other lock is to be attempted; with the list in hand, nobody is to
--- be told.
+-- Setting release-ok where the session owes it: if it was told, no other lock is to be attempted; with the
+-- list in hand, nobody is to be told.
 pub record AsksSettingOk (w : World) (x : Duties) (session lock : ℕ) : Type 0 where
   pub no_other :
       x.owes_release_ok session ≡ Some lock → w.sessions.stands session ≡ None → NoneOr (x.tries session) lock
@@ -180,7 +184,8 @@ pub record HasNothingToDo (w : World) (x : Duties) (waits sleeps : Calls) (sessi
   pub calls_no_waiter : (other : ℕ) → waits.owed session other ≡ false
   pub calls_no_sleeper : (other : ℕ) → sleeps.owed session other ≡ false
 
--- What each step asks. A put asks that no look is due; closing, and being kept apart, that there is nothing to do.
+-- What each step asks. A put asks that no look is due; closing, and being kept apart, that there is nothing
+-- to do.
 abbrev pub Asks : World → Duties → Calls → Calls → ℕ → Step → Type 0
 Asks w x waits sleeps session (TakeExclusive word) = AsksTaking x session (lock_of word)
 Asks w x waits sleeps session (TakeShared word) = AsksTaking x session (lock_of word)

@@ -3,10 +3,11 @@ use Rattle.lw_word.specs.LightweightWord.{IsReleaseOk, HasWaiters}
 use Rattle.lw_word.specs.WaitList.{stands_in}
 use Rattle.lock_world.specs.WaitLists.{Sleepers}
 
--- Why nobody who sleeps for a lightweight lock is forgotten: where a lock's wait list has a waiter, somebody has the lock, or has
--- something to do for it. Locks go by their numbers, as in wait lists.
+-- Why nobody who sleeps for a lightweight lock is forgotten: where a lock's wait list has a waiter, somebody
+-- has the lock, or has something to do for it. Locks go by their numbers, as in wait lists.
 
--- What there is of the waiting for lightweight locks, and what each session still has to do for those who wait.
+-- What there is of the waiting for lightweight locks, and what each session still has to do for those who
+-- wait.
 pub record Waking : Type 0 where
   -- the word of each lock
   pub word : ℕ → ℕ
@@ -64,7 +65,8 @@ pub record NobodyIsForgotten (w : Waking) : Type 0 where
   pub in_list : (lock session : ℕ) → stands_in session (w.sleepers.list lock) ≡ true → w.owes_release_ok session ≡ Some lock
   -- whom a session with a list in hand has taken off, it has taken off that list
   pub of_hand : (session other lock : ℕ) → w.has_list session ≡ Some lock → w.sleepers.off session other ≡ true → HasOkToSet w lock other
-  -- a sleep word shows 1 only of a session that stands in a list, 2 only of one that is to be told, and else 0
+  -- a sleep word shows 1 only of a session that stands in a list, 2 only of one that is to be told, and else
+  -- 0
   pub waits : (session : ℕ) → w.sleepers.sleep session ≡ 1 → (lock : ℕ) × (stands_in session (w.sleepers.list lock) ≡ true)
   pub told : (session : ℕ) → w.sleepers.sleep session ≡ 2 → (other : ℕ) × (w.sleepers.off other session ≡ true)
   pub few : (session : ℕ) → w.sleepers.sleep session < 3
@@ -77,7 +79,8 @@ TellsNobody off session = (other : ℕ) → off session other ≡ false
 abbrev pub NoneOr : Option ℕ → ℕ → Type 0
 NoneOr its lock = (its ≡ None) ⊎ (its ≡ Some lock)
 
--- Why a session may unlock a list: nobody waits there, it has taken somebody off, it has the lock, or it attempts the lock next.
+-- Why a session may unlock a list: nobody waits there, it has taken somebody off, it has the lock, or it
+-- attempts the lock next.
 pub data IsLeftWell (w : Waking) (lock session : ℕ) : Type 0 where
   nobody_waits : w.sleepers.list lock ≡ [] → IsLeftWell w lock session
   took_off : (other : ℕ) → w.sleepers.off session other ≡ true → IsLeftWell w lock session
@@ -86,8 +89,9 @@ pub data IsLeftWell (w : Waking) (lock session : ℕ) : Type 0 where
 
 -- Who sleeps.
 
--- By its account the session may sleep for the lock: it stands in the list and has nothing to do for anybody, and its sleep word does
--- not show that it was told. Where it has won the lock, it knows that it is off the list, and waits to be told.
+-- By its account the session may sleep for the lock: it stands in the list and has nothing to do for anybody,
+-- and its sleep word does not show that it was told. Where it has won the lock, it knows that it is off the
+-- list, and waits to be told.
 pub record IsAsleep (w : Waking) (session lock : ℕ) : Type 0 where
   pub stands : w.sleepers.stands session ≡ Some lock
   pub not_told : w.sleepers.sleep session ≢ 0
@@ -104,11 +108,13 @@ IsOwedOrTold w session lock =
 
 -- The order of locks.
 
--- the place of a lock in the order: all locks of fast-path slots first, and then the partitions, the lowest first
+-- the place of a lock in the order: all locks of fast-path slots first, and then the partitions, the lowest
+-- first
 abbrev pub rank : ℕ → ℕ
 rank lock = if lock % 2 == 0 then 1 + lock / 2 else 0
 
--- Nobody stands in a lock's list while it has a later lock, or another one of the same place; the lock itself it may have won.
+-- Nobody stands in a lock's list while it has a later lock, or another one of the same place; the lock itself
+-- it may have won.
 pub record OrderIsKept (w : Waking) : Type 0 where
   pub rising : (session lock held : ℕ) → w.sleepers.stands session ≡ Some lock → HasLock w session held → (rank held < rank lock) ⊎ (held ≡ lock)
   pub bound : (session lock : ℕ) → w.sleepers.stands session ≡ Some lock → rank lock < 17
@@ -118,7 +124,8 @@ pub data IsInvolved (w : Waking) (session : ℕ) : Type 0 where
   owes_one : (lock : ℕ) → Owes w lock session → IsInvolved w session
   tells_one : (other : ℕ) → w.sleepers.off session other ≡ true → IsInvolved w session
 
--- Not all who are involved sleep, where anybody sleeps: no circle of sleepers, and each chain of waiting ends at one that runs.
+-- Not all who are involved sleep, where anybody sleeps: no circle of sleepers, and each chain of waiting ends
+-- at one that runs.
 abbrev pub NotAllSleep : Waking → Type 0
 NotAllSleep w =
     ((session : ℕ) → IsInvolved w session → (lock : ℕ) × IsAsleep w session lock)

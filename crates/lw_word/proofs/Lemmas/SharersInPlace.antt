@@ -4,10 +4,11 @@ use Rattle.std.proofs.lemmas.Bool.{cond-true, cond-false, false_from_ne_true}
 use Rattle.lw_word.specs.declared.wait_lists.LwWaiter.{LwWaiter}
 use Rattle.lw_word.specs.WaitList.{wants_to_share, without_sharers}
 
--- A loop over a list of waiters that takes off those who want to share, some at most, and moves all others forward.
+-- A loop over a list of waiters that takes off those who want to share, some at most, and moves all others
+-- forward.
 
--- It has taken off these, and may take off `more` of them; those whom it leaves stand in the first places, and from its own place on
--- the list is as it was.
+-- It has taken off these, and may take off `more` of them; those whom it leaves stand in the first places,
+-- and from its own place on the list is as it was.
 pub record TakesInPlace (many : ℕ) (waiters now taken : List LwWaiter) (kept place : ℕ) : Type 0 where
   pub more : ℕ
   pub sum : length taken + more ≡ many

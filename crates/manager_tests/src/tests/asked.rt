@@ -1,4 +1,5 @@
-//! A session waits in its thread for what another one has, which gives it back while a third one asks it to cancel.
+//! A session waits in its thread for what another one has, which gives it back while a third one asks it to
+//! cancel.
 
 ghost use Rattle.std.specs.Prelude.{◌≡◌};
 ghost use Rattle.lock_manager.specs.Crews.{KeepManagers};
@@ -15,7 +16,8 @@ use std::sync::Wait;
 use std::thread::Threads;
 use std::time::Clock;
 
-/// How many sessions a race has: by number, the holder, the session that waits, and the one that asks it to cancel.
+/// How many sessions a race has: by number, the holder, the session that waits, and the one that asks it to
+/// cancel.
 pub const SESSIONS: u32 = 3;
 
 /// What the three threads of a race have together.
@@ -31,8 +33,8 @@ struct Ring {
     waiter: SessionId,
 }
 
-/// Ends the test where `answer`, to the session that waits, doesn't fit `count`, how often it has the mode, and
-/// notes in `wins` which side won.
+/// Ends the test where `answer`, to the session that waits, doesn't fit `count`, how often it has the mode,
+/// and notes in `wins` which side won.
 fn expect_fit<R: Abort>(rt: &R, wins: &Wins, answer: Answer, count: u16) {
     match answer {
         Ok(Acquired::Granted) => wins.first(),
@@ -84,8 +86,8 @@ fn ask<T: PartTable, B: Board<T>, R: Wait>(
     session.ask_cancel(ring.waiter);
 }
 
-/// Takes with `session`, where `number` says that it is the holder, the mode that is to be in the way of the session
-/// that waits.
+/// Takes with `session`, where `number` says that it is the holder, the mode that is to be in the way of the
+/// session that waits.
 fn prepare<T: PartTable, B: Board<T>, R: Abort + Wait>(
     rt: &R,
     session: &mut OwnSession<T, B>,

@@ -23,7 +23,8 @@ use std::sync::Wait;
 /// How many sessions there are.
 pub const SESSIONS: u32 = 3;
 
-/// The tag of the object numbered `number`: relations of the sessions' database, but for 0, which is no relation.
+/// The tag of the object numbered `number`: relations of the sessions' database, but for 0, which is no
+/// relation.
 fn tag(number: u32) -> Tag {
     if number == 0 {
         Tag::object(5, 1_259, 16_384, 0)
@@ -59,8 +60,8 @@ pub type Numbers = (u64, u64, u64);
 /// What the audits count once one, two and three sessions have taken their locks.
 static TAKEN: [Numbers; 3] = [(3, 2, 1), (4, 4, 1), (4, 7, 3)];
 
-/// What the audit counts once all have committed: in slots the first session has two modes and the second one has one,
-/// in the table each has one.
+/// What the audit counts once all have committed: in slots the first session has two modes and the second one
+/// has one, in the table each has one.
 const COMMITTED: Numbers = (3, 3, 2);
 
 pub const NOTHING: Numbers = (0, 0, 0);
@@ -109,8 +110,8 @@ fn audit<T: PartTable, B: Board<T>, D: Desk<OwnSession<T, B>>, R: Abort + Wait>(
     desk.audit(rt, sessions)
 }
 
-/// Ends the test where an audit doesn't count `expected`, at the second attempt where there was no memory, since a
-/// failed attempt changes nothing.
+/// Ends the test where an audit doesn't count `expected`, at the second attempt where there was no memory,
+/// since a failed attempt changes nothing.
 pub fn count<T: PartTable, B: Board<T>, D: Desk<OwnSession<T, B>>, R: Abort + Wait>(
     rt: &R,
     desk: &mut D,
@@ -131,8 +132,8 @@ pub fn count<T: PartTable, B: Board<T>, D: Desk<OwnSession<T, B>>, R: Abort + Wa
     expect_counted(rt, counted, expected);
 }
 
-/// Ends the transactions of all `sessions`, the last one first, by a commit where `is_good`, otherwise by an abort.
-/// Ends the test where an audit doesn't count `expected` after that.
+/// Ends the transactions of all `sessions`, the last one first, by a commit where `is_good`, otherwise by an
+/// abort. Ends the test where an audit doesn't count `expected` after that.
 pub fn end_each<T: PartTable, B: Board<T>, D: Desk<OwnSession<T, B>>, R: Abort + Wait>(
     rt: &R,
     alloc: Global,
@@ -162,8 +163,8 @@ pub fn end_each<T: PartTable, B: Board<T>, D: Desk<OwnSession<T, B>>, R: Abort +
     ended
 }
 
-/// Has three sessions of `desk` take modes, one after another, all commit, and all abort, and an audit count each time
-/// what they have.
+/// Has three sessions of `desk` take modes, one after another, all commit, and all abort, and an audit count
+/// each time what they have.
 pub fn audit_often<T: PartTable, B: Board<T>, D: Desk<OwnSession<T, B>>, R: Abort + Wait>(
     rt: &R,
     alloc: Global,
@@ -189,8 +190,8 @@ pub fn granted_in(rows: &[TableRow]) -> u64 {
     rows.iter().filter(|row| row.granted).count() as u64
 }
 
-/// What `listing` shows as an audit counts it: the modes in slots, those in the table, and `strong`, the sum of all
-/// strong lock counters.
+/// What `listing` shows as an audit counts it: the modes in slots, those in the table, and `strong`, the sum
+/// of all strong lock counters.
 fn numbers_of(listing: &Listing, strong: u64) -> Numbers {
     (
         listing.fast.len() as u64,
@@ -240,8 +241,8 @@ fn look_last<T: PartTable, B: Board<T>, D: Desk<OwnSession<T, B>>, R: Abort + Wa
     seen
 }
 
-/// Ends the test where an audit doesn't count what the last of `sessions` sees, and closes all of them. No other
-/// session is open.
+/// Ends the test where an audit doesn't count what the last of `sessions` sees, and closes all of them. No
+/// other session is open.
 pub fn close_counted<T: PartTable, B: Board<T>, D: Desk<OwnSession<T, B>>, R: Abort + Wait>(
     rt: &R,
     desk: &mut D,

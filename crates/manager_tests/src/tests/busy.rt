@@ -15,7 +15,8 @@ use std::sync::Wait;
 use std::sync::atomic::{AtomicBool, Ordering};
 use std::thread::Threads;
 
-/// Whether `answer` says that the slots were found busy. Otherwise the mode was granted, or a strong one counted.
+/// Whether `answer` says that the slots were found busy. Otherwise the mode was granted, or a strong one
+/// counted.
 fn is_busy<R: Abort>(rt: &R, answer: Answer) -> bool {
     match answer {
         Err(Refusal::Busy) => true,
@@ -24,8 +25,8 @@ fn is_busy<R: Abort>(rt: &R, answer: Answer) -> bool {
     }
 }
 
-/// Tries a weak mode by a slot with `session`, and gives it back. Answers whether the lock of the slots was found
-/// taken, which is not waited for.
+/// Tries a weak mode by a slot with `session`, and gives it back. Answers whether the lock of the slots was
+/// found taken, which is not waited for.
 fn find_busy<T: PartTable, B: Board<T>, R: Abort + Wait>(
     rt: &R,
     session: &mut OwnSession<T, B>,
@@ -40,8 +41,8 @@ fn find_busy<T: PartTable, B: Board<T>, R: Abort + Wait>(
     false
 }
 
-/// Tries weak modes by a slot with `session` until the lock of its slots was found taken once, and sets `is_seen`
-/// then.
+/// Tries weak modes by a slot with `session` until the lock of its slots was found taken once, and sets
+/// `is_seen` then.
 pub fn try_until_busy<T: PartTable, B: Board<T>, R: Abort + Wait>(
     rt: &R,
     session: &mut OwnSession<T, B>,
@@ -57,8 +58,8 @@ pub fn try_until_busy<T: PartTable, B: Board<T>, R: Abort + Wait>(
     }
 }
 
-/// Takes a strong mode with `session`, and gives it back. On the way the session has the slots' locks of all sessions
-/// in hand in turn.
+/// Takes a strong mode with `session`, and gives it back. On the way the session has the slots' locks of all
+/// sessions in hand in turn.
 fn go_past_slots<T: PartTable, B: Board<T>, R: Abort + Wait>(rt: &R, session: &mut OwnSession<T, B>)
     ensures seat { B.seat session.new.board ≡ B.seat session.old.board }
 {
@@ -82,8 +83,8 @@ pub fn take_until_seen<T: PartTable, B: Board<T>, R: Abort + Wait>(
     }
 }
 
-/// Has one session of `pair` go past the slots of the other, until the other one finds its slots busy. At the end
-/// nothing is held.
+/// Has one session of `pair` go past the slots of the other, until the other one finds its slots busy. At the
+/// end nothing is held.
 pub fn find_slots_busy<B: Board<Part> + Send, R: Abort + Threads + Wait + Sync>(
     rt: &R,
     pair: Pair<Part, B>,

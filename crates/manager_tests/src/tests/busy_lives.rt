@@ -1,5 +1,5 @@
-//! Connections that come and go in one thread, each with the number that the one before it had, while another thread
-//! lists, and a third one takes strong modes on what they hold: under a watchdog.
+//! Connections that come and go in one thread, each with the number that the one before it had, while another
+//! thread lists, and a third one takes strong modes on what they hold: under a watchdog.
 
 ghost use Rattle.std.specs.Prelude.{◌≡◌, ◌≤◌, ◌+◌, length};
 ghost use Rattle.lock_manager.specs.Crews.{AreOf, SeatsAre};
@@ -23,8 +23,8 @@ use std::thread;
 use std::thread::{Threads, join_mut};
 use std::time::Clock;
 
-/// How many sessions there are: one that asks others to cancel, one that lists, one that takes strong modes, and the
-/// one that is lent.
+/// How many sessions there are: one that asks others to cancel, one that lists, one that takes strong modes,
+/// and the one that is lent.
 pub const SESSIONS: u32 = 4;
 
 /// The session number that connections are lent, one after another.
@@ -58,7 +58,8 @@ impl Shown {
     }
 }
 
-/// The database of the connection numbered `life`: connections that follow each other are to different databases.
+/// The database of the connection numbered `life`: connections that follow each other are to different
+/// databases.
 fn database_of(life: u32) -> u32 {
     if life % 2 == 0 { 5 } else { 6 }
 }
@@ -68,8 +69,8 @@ fn table_of(life: u32) -> Tag {
     Tag::relation(database_of(life), FIRST.saturating_add(life))
 }
 
-/// Whether a listed hold or wait of `session` on `tag` is one of another session than the lent one, or of a connection
-/// from that numbered `first` to that numbered `last`.
+/// Whether a listed hold or wait of `session` on `tag` is one of another session than the lent one, or of a
+/// connection from that numbered `first` to that numbered `last`.
 fn is_of_those(session: SessionId, tag: Tag, first: u32, last: u32) -> bool {
     if session.number() != LENT || tag == TABLE {
         return true;
@@ -83,8 +84,8 @@ fn is_of_those(session: SessionId, tag: Tag, first: u32, last: u32) -> bool {
     }
 }
 
-/// Whether each row of `listing` is another session's, or of a connection from that numbered `first` to that numbered
-/// `last`.
+/// Whether each row of `listing` is another session's, or of a connection from that numbered `first` to that
+/// numbered `last`.
 fn are_of_those(listing: &Listing, first: u32, last: u32) -> bool {
     let mut are = true;
     for row in &listing.fast {
@@ -96,8 +97,8 @@ fn are_of_those(listing: &Listing, first: u32, last: u32) -> bool {
     are
 }
 
-/// Ends the test unless a cancel for a life that was over, and then one for the life that goes on, were answered `over`
-/// and `now`.
+/// Ends the test unless a cancel for a life that was over, and then one for the life that goes on, were
+/// answered `over` and `now`.
 fn expect_asked<R: Abort>(rt: &R, over: Asked, now: Asked) {
     assert!(rt; over == Asked::NotWaiting);
     assert!(rt; now == Asked::Waiting);
@@ -112,8 +113,8 @@ fn expect_held<R: Abort>(rt: &R, refusal: Refusal) {
     assert!(rt; mode == Mode::AccessShare && how == How::Held);
 }
 
-/// Notes in `wins` whether a strong mode met what a connection held, by `answer`. Ends the test where it was refused for
-/// something else.
+/// Notes in `wins` whether a strong mode met what a connection held, by `answer`. Ends the test where it was
+/// refused for something else.
 fn note<R: Abort>(rt: &R, wins: &Wins, answer: Answer) {
     match answer {
         Ok(_) => wins.second(),
@@ -124,7 +125,8 @@ fn note<R: Abort>(rt: &R, wins: &Wins, answer: Answer) {
     }
 }
 
-/// Has `session` wait, be asked to cancel in the life that is over, which does nothing, and then in its own, `now`.
+/// Has `session` wait, be asked to cancel in the life that is over, which does nothing, and then in its own,
+/// `now`.
 fn wait_and_be_asked<T: PartTable, B: Board<T>, R: Abort + Wait>(
     rt: &R,
     pool: &SessionPool<T, B>,
@@ -147,8 +149,8 @@ fn wait_and_be_asked<T: PartTable, B: Board<T>, R: Abort + Wait>(
     leave(rt, find_still(rt, waiting, true))
 }
 
-/// Does with `session` what the connection numbered `life` does: it holds its table, unless a strong mode is in the
-/// way, and may wait.
+/// Does with `session` what the connection numbered `life` does: it holds its table, unless a strong mode is
+/// in the way, and may wait.
 fn live<T: PartTable, B: Board<T>, R: Abort + Wait>(
     rt: &R,
     pool: &SessionPool<T, B>,
@@ -220,8 +222,8 @@ fn serve<T: PartTable, B: Board<T>, D: Desk<OwnSession<T, B>>, R: Abort + Wait>(
     shown.watch.is_over.store(true, Ordering::SeqCst);
 }
 
-/// Lists with `session` until all is over. What is listed of the lent session is of a connection that was there
-/// meanwhile, in its own database, and of none before it.
+/// Lists with `session` until all is over. What is listed of the lent session is of a connection that was
+/// there meanwhile, in its own database, and of none before it.
 fn list_often<T: PartTable, B: Board<T>, R: Abort + Wait>(
     rt: &R,
     shown: &Shown,
@@ -240,8 +242,8 @@ fn list_often<T: PartTable, B: Board<T>, R: Abort + Wait>(
     }
 }
 
-/// Takes the strongest mode with `session` on the table of each connection that is there, until all is over: what the
-/// connection holds by a slot is moved to the table, and is in the way.
+/// Takes the strongest mode with `session` on the table of each connection that is there, until all is over:
+/// what the connection holds by a slot is moved to the table, and is in the way.
 fn disturb_often<T: PartTable, B: Board<T>, R: Abort + Wait>(
     rt: &R,
     shown: &Shown,
@@ -325,8 +327,8 @@ fn act_side_by_side<
     );
 }
 
-/// Has `lives` connections come and go at `desk`, one after another, each with the session that a pool lends, while
-/// others list and take strong modes.
+/// Has `lives` connections come and go at `desk`, one after another, each with the session that a pool lends,
+/// while others list and take strong modes.
 pub fn come_and_go_beside<
     B: Board<Part> + Send,
     D: Desk<OwnSession<Part, B>> + Send,

@@ -78,7 +78,8 @@ fn make<T: PartTable, B: Board<T>, R: Wait>(
     }
 }
 
-/// Makes the call at `place` of a list with `session`: `call`, `times` times, which is to be answered `answer`.
+/// Makes the call at `place` of a list with `session`: `call`, `times` times, which is to be answered
+/// `answer`.
 pub fn make_often<T: PartTable, B: Board<T>, R: Abort + Wait>(
     rt: &R,
     session: &mut OwnSession<T, B>,

@@ -4,8 +4,8 @@ use lock_manager::{Config, Manager, Refusal};
 use std::process::Abort;
 use std::test::Fail;
 
-/// A configuration: how many sessions, with how many entries and groups of slots each, and whether a usual manager and
-/// a server's can have that.
+/// A configuration: how many sessions, with how many entries and groups of slots each, and whether a usual
+/// manager and a server's can have that.
 static CONFIGURATIONS: [(u32, u32, u32, bool, bool); 17] = [
     (0, 8, 1, false, false),
     (65, 8, 1, false, true),
@@ -26,8 +26,8 @@ static CONFIGURATIONS: [(u32, u32, u32, bool, bool); 17] = [
     (1_024, 0, 1, false, false),
 ];
 
-/// Ends the test unless a manager of `config` was refused, by `refusal`, exactly where a number is out of its range,
-/// and the configuration, which `says` whether all are within it, says so itself.
+/// Ends the test unless a manager of `config` was refused, by `refusal`, exactly where a number is out of its
+/// range, and the configuration, which `says` whether all are within it, says so itself.
 fn expect_made<R: Abort>(
     rt: &R,
     refusal: Option<Refusal>,

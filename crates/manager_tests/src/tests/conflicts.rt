@@ -2,8 +2,8 @@
 
 ghost use Rattle.std.specs.Prelude.{◌<◌};
 
-// PostgreSQL's table of conflicts: a row for each mode that is asked for, in the order of their numbers, and in it a
-// place for each mode that another session has, 1 where the two conflict.
+// PostgreSQL's table of conflicts: a row for each mode that is asked for, in the order of their numbers, and
+// in it a place for each mode that another session has, 1 where the two conflict.
 static CONFLICTS: [[u8; 8]; 8] = [
     [0, 0, 0, 0, 0, 0, 0, 1],
     [0, 0, 0, 0, 0, 0, 1, 1],

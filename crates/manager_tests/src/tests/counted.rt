@@ -1,5 +1,5 @@
-//! What makes no step on shared state: a board that counts all that is done on it shows that no shared word is
-//! loaded or written.
+//! What makes no step on shared state: a board that counts all that is done on it shows that no shared word
+//! is loaded or written.
 
 ghost use Rattle.std.specs.Prelude.{◌≡◌, ◌<◌, ◌≤◌, IfOk};
 ghost use Rattle.shared_rule.specs.Boards.{nothing_due};
@@ -88,8 +88,8 @@ const NOT_HELD: Answer = Refused(7);
 
 const NOT_ELIGIBLE: Answer = Refused(11);
 
-/// A counted call: how many times it is made, the call, what each is answered, and whether each does something on the
-/// board.
+/// A counted call: how many times it is made, the call, what each is answered, and whether each does
+/// something on the board.
 type CountedCall = (u32, Call, Answer, bool);
 
 static CALLS: [CountedCall; 26] = [
@@ -217,8 +217,8 @@ fn one_thread(alloc: Global) -> Result<OneThread<PlainPart>, Fail>
     }
 }
 
-/// Makes all counted calls in a session over `board`, on which nothing was done yet, and counts what each does on the
-/// board.
+/// Makes all counted calls in a session over `board`, on which nothing was done yet, and counts what each
+/// does on the board.
 fn make_all_over<T: PartTable, B: Board<T> + Drop, R: Abort + Wait>(
     rt: &R,
     alloc: Global,

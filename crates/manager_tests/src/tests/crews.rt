@@ -1,5 +1,5 @@
-//! What more than two sessions do side by side, each in a thread of its own: at a manager's desk here, and on boards
-//! that pause in `unsteady`.
+//! What more than two sessions do side by side, each in a thread of its own: at a manager's desk here, and on
+//! boards that pause in `unsteady`.
 
 ghost use Rattle.std.specs.Prelude.{◌≡◌, length};
 ghost use Rattle.lock_manager.specs.Crews.{KeepManagers, SeatsAre};
@@ -24,8 +24,8 @@ pub enum Crew {
     Asks(u32, Plan),
     /// All sessions but one sleep in one queue for this mode.
     Queue(Mode),
-    /// This number of times, one session waits for what another one gives back while a third one asks the first to
-    /// cancel.
+    /// This number of times, one session waits for what another one gives back while a third one asks the
+    /// first to cancel.
     Asked(u32),
     /// One session lists while three lock and unlock.
     Watch,

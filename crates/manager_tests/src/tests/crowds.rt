@@ -1,6 +1,6 @@
-//! As many sessions as there can be on one partition, and at one object, each in a thread of its own, under a watchdog
-//! that ends the test where nobody goes on. So no session sleeps for ever in the wait list of the partition's
-//! lightweight lock, or in the object's queue.
+//! As many sessions as there can be on one partition, and at one object, each in a thread of its own, under a
+//! watchdog that ends the test where nobody goes on. So no session sleeps for ever in the wait list of the
+//! partition's lightweight lock, or in the object's queue.
 
 ghost use Rattle.std.specs.Prelude.{◌≡◌};
 ghost use Rattle.lock_manager.specs.Crews.{KeepManagers};
@@ -108,8 +108,8 @@ impl Watch {
     }
 }
 
-/// The tag of what the session numbered `number` takes. Objects of their own lie in one partition, since their numbers
-/// are 16 apart.
+/// The tag of what the session numbered `number` takes. Objects of their own lie in one partition, since
+/// their numbers are 16 apart.
 fn object_of(takes: Takes, number: u32) -> Tag {
     match takes {
         Takes::OwnObjects => Tag::object(5, 1_259, 16 * (number % 1_024), 0),
@@ -191,7 +191,8 @@ fn lock_watched<B: Board<Part> + Send, R: Abort + Clock + Threads + Wait + Sync>
     );
 }
 
-/// Looks at `watch` until all is over. Where nobody goes on for too long it ends the test, and says what it saw.
+/// Looks at `watch` until all is over. Where nobody goes on for too long it ends the test, and says what it
+/// saw.
 pub fn guard<R: Abort + Clock + Wait>(rt: &R, watch: &Watch) {
     let mut seen = 0;
     let mut in_vain: u32 = 0;

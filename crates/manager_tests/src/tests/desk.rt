@@ -92,8 +92,8 @@ pub fn open_behind<T: PartTable, B: Board<T>, D: Desk<OwnSession<T, B>>, R: Abor
     append(rt, sessions, session);
 }
 
-/// Opens `number` sessions at `desk`, in the order of their numbers. Each does what `beginning` says before the next one
-/// is opened.
+/// Opens `number` sessions at `desk`, in the order of their numbers. Each does what `beginning` says before
+/// the next one is opened.
 pub fn open_many<T: PartTable, B: Board<T>, D: Desk<OwnSession<T, B>>, R: Abort + Wait>(
     rt: &R,
     alloc: Global,

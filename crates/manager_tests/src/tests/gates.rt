@@ -7,9 +7,9 @@ use std::thread;
 use std::thread::sleep;
 use std::time::{Clock, Duration};
 
-/// How often a thread looks whether the others have come before it leaves its processor to them: soon where they
-/// only have to come, and late where all are to go on at the same moment, since who is given a processor again
-/// comes long after the others.
+/// How often a thread looks whether the others have come before it leaves its processor to them: soon where
+/// they only have to come, and late where all are to go on at the same moment, since who is given a processor
+/// again comes long after the others.
 const SOON: u64 = 2_000;
 
 const LATE: u64 = 20_000;
@@ -17,8 +17,8 @@ const LATE: u64 = 20_000;
 /// How many steps a thread pauses at most after a gate: some two microseconds.
 const STEPS: u64 = 2_048;
 
-/// How often a thread leaves its processor at most in some rounds, for each side in others, so that the other side is
-/// woken and wins.
+/// How often a thread leaves its processor at most in some rounds, for each side in others, so that the other
+/// side is woken and wins.
 const TURNS: u64 = 64;
 
 /// Where threads meet, over and over.
@@ -44,8 +44,8 @@ impl Gate {
         self.wait(rt, many, SOON);
     }
 
-    /// Comes to the gate, and goes on once `many` have come, which are too many to look all the time: sleeps for a
-    /// millisecond between two looks.
+    /// Comes to the gate, and goes on once `many` have come, which are too many to look all the time: sleeps
+    /// for a millisecond between two looks.
     pub fn come_asleep<R: Clock + Wait>(&self, rt: &R, many: u64) {
         self.come.fetch_add(1, Ordering::SeqCst);
         for _ in rt.forever() {
@@ -56,8 +56,8 @@ impl Gate {
         }
     }
 
-    /// Comes to the gate, and goes on once `many` have come, with `patience` looks before the processor is left to
-    /// others.
+    /// Comes to the gate, and goes on once `many` have come, with `patience` looks before the processor is
+    /// left to others.
     fn wait<R: Wait>(&self, rt: &R, many: u64, patience: u64) {
         let before = self.come.fetch_add(1, Ordering::SeqCst);
         let all = match before.checked_rem(many) {

@@ -26,8 +26,8 @@ fn expect_life<R: Abort>(rt: &R, lent: SessionLife, number: u32, life: u32) {
     assert_eq!(rt; lent.life, u64::from(life));
 }
 
-/// Has `pool` lend a session of `desk`, which is the one numbered `number`, in the life numbered `life`. It takes an
-/// object of its own.
+/// Has `pool` lend a session of `desk`, which is the one numbered `number`, in the life numbered `life`. It
+/// takes an object of its own.
 fn lend_one<T: PartTable, B: Board<T>, D: Desk<OwnSession<T, B>>, R: Abort + Wait>(
     rt: &R,
     desk: &mut D,
@@ -53,7 +53,8 @@ fn lend_one<T: PartTable, B: Board<T>, D: Desk<OwnSession<T, B>>, R: Abort + Wai
     append(rt, lent, session);
 }
 
-/// Has `pool` lend all sessions that there can be of `desk`, in the life numbered `life`, and refuse one more.
+/// Has `pool` lend all sessions that there can be of `desk`, in the life numbered `life`, and refuse one
+/// more.
 fn lend_all<T: PartTable, B: Board<T>, D: Desk<OwnSession<T, B>>, R: Abort + Wait>(
     rt: &R,
     desk: &mut D,

@@ -16,8 +16,8 @@ use std::sync::Wait;
 /// How many local entries each session has in its fast-path slots.
 const BY_SLOT: u32 = 16;
 
-/// How many sessions a manager has, and how many entries each of them has. Each takes more modes than it has room for
-/// in slots.
+/// How many sessions a manager has, and how many entries each of them has. Each takes more modes than it has
+/// room for in slots.
 #[derive(Clone, Copy)]
 pub struct Limits {
     pub sessions: u32,
@@ -33,8 +33,8 @@ impl Limits {
     }
 }
 
-/// What the entry numbered `number` of `session` locks: the first ones go by slots, and the others, which no other
-/// session has, are in the table.
+/// What the entry numbered `number` of `session` locks: the first ones go by slots, and the others, which no
+/// other session has, are in the table.
 fn entry(session: u16, number: u32) -> (Tag, Mode) {
     if number < BY_SLOT {
         (Tag::relation(5, number), Mode::AccessShare)
@@ -81,8 +81,8 @@ pub fn list_all<T: PartTable, B: Board<T>, D: Desk<OwnSession<T, B>>, R: Abort +
     }
 }
 
-/// Has all sessions of `desk` take all that they may have by `limits`, which is counted and listed, and give it
-/// back.
+/// Has all sessions of `desk` take all that they may have by `limits`, which is counted and listed, and give
+/// it back.
 pub fn hold_all<T: PartTable, B: Board<T>, D: Desk<OwnSession<T, B>>, R: Abort + Wait>(
     rt: &R,
     alloc: Global,

@@ -11,23 +11,23 @@ use std::alloc::Global;
 use std::process::Abort;
 use std::sync::Wait;
 
-/// Ends the test unless a connection to `database`, whose session says `its_database` and `number`, has the first
-/// number.
+/// Ends the test unless a connection to `database`, whose session says `its_database` and `number`, has the
+/// first number.
 fn expect_first<R: Abort>(rt: &R, database: u32, its_database: u32, number: u16) {
     assert_eq!(rt; its_database, database);
     assert_eq!(rt; number, 0);
 }
 
-/// Ends the test unless `next` is another life than `last`, and a cancel for `last` was answered `asked` as where
-/// nobody waits.
+/// Ends the test unless `next` is another life than `last`, and a cancel for `last` was answered `asked` as
+/// where nobody waits.
 fn expect_another_life<R: Abort>(rt: &R, last: u64, next: u64, asked: Asked) {
     assert!(rt; next != last);
     assert!(rt; asked == Asked::NotWaiting);
 }
 
-/// Takes what a connection to `database` takes with `session`, and leaves it there: a mode by a slot, a strong one of
-/// the session's own, and an advisory lock in a savepoint. The connection that had the session before has left
-/// nothing of these.
+/// Takes what a connection to `database` takes with `session`, and leaves it there: a mode by a slot, a
+/// strong one of the session's own, and an advisory lock in a savepoint. The connection that had the session
+/// before has left nothing of these.
 fn take_and_leave<T: PartTable, B: Board<T>, R: Abort + Wait>(
     rt: &R,
     session: &mut OwnSession<T, B>,
@@ -67,8 +67,8 @@ fn live_once<T: PartTable, B: Board<T>, D: Desk<OwnSession<T, B>>, R: Abort + Wa
     pool.close(rt, desk, session);
 }
 
-/// Has a connection of `pool` at `desk` end, and the next one, which has the same number, ask for a cancel of the
-/// first one's wait: that is answered as where nobody waits.
+/// Has a connection of `pool` at `desk` end, and the next one, which has the same number, ask for a cancel of
+/// the first one's wait: that is answered as where nobody waits.
 fn ask_the_last_one<T: PartTable, B: Board<T>, D: Desk<OwnSession<T, B>>, R: Abort + Wait>(
     rt: &R,
     desk: &mut D,

@@ -17,7 +17,8 @@ use std::sync::Wait;
 /// How many modes the one session takes.
 pub const MANY: u32 = 300;
 
-/// The tag of the object numbered `number`, which has a mode of its own, none of which is in the way of another.
+/// The tag of the object numbered `number`, which has a mode of its own, none of which is in the way of
+/// another.
 fn object(number: u32) -> (Tag, Mode) {
     let mode = Mode::ALL[(number % 8) as usize];
     (Tag::object(5, 1_259, number, 0), mode)
@@ -28,8 +29,8 @@ fn is_out_of_memory(answer: &Answer) -> bool {
     *answer == Err(Refusal::NoMemory)
 }
 
-/// Asks with `session` for `tag` in `mode` for `owner`, and again where there was no memory. A refusal for that leaves
-/// what `session` had.
+/// Asks with `session` for `tag` in `mode` for `owner`, and again where there was no memory. A refusal for
+/// that leaves what `session` had.
 fn try_at_last<T: PartTable, B: Board<T>, R: Abort + Wait>(
     rt: &R,
     session: &mut OwnSession<T, B>,
@@ -137,8 +138,8 @@ const TABLE: Tag = Tag::Relation {
 /// How many times a strong mode is asked for.
 const TRANSFERS: u32 = 6;
 
-/// How many locks more the second session has in the partition of the table at each transfer. So the list of holds
-/// grows now for the first mode that is moved, now for the second one, now for the strong mode.
+/// How many locks more the second session has in the partition of the table at each transfer. So the list of
+/// holds grows now for the first mode that is moved, now for the second one, now for the strong mode.
 const BESIDE: u32 = 3;
 
 /// How many entries the second session has at the end.
@@ -173,8 +174,8 @@ fn expect_once<R: Abort>(rt: &R, listing: &Listing, mode: Mode) {
     assert_eq!(rt; in_slots.saturating_add(in_table), 1, "{mode}");
 }
 
-/// Sees with `session` that nothing of a strong mode is left that was refused, and that the weak ones are where they
-/// may be.
+/// Sees with `session` that nothing of a strong mode is left that was refused, and that the weak ones are
+/// where they may be.
 fn see_no_trace<T: PartTable, B: Board<T>, R: Abort + Wait>(rt: &R, session: &mut OwnSession<T, B>)
     ensures seat { B.seat session.new.board ≡ B.seat session.old.board }
 {
@@ -217,8 +218,8 @@ fn ask_for_strong<T: PartTable, B: Board<T>, R: Abort + Wait>(
     see_no_trace(rt, session);
 }
 
-/// Has the first session of `pair` take two weak modes in a slot, the second one ask for a strong one, and the first
-/// one give back.
+/// Has the first session of `pair` take two weak modes in a slot, the second one ask for a strong one, and
+/// the first one give back.
 fn move_once<T: PartTable, B: Board<T>, R: Abort + Wait>(rt: &R, pair: &mut Pair<T, B>)
     ensures first { B.seat pair.new.first.board ≡ B.seat pair.old.first.board }
     ensures second { B.seat pair.new.second.board ≡ B.seat pair.old.second.board }
@@ -247,8 +248,8 @@ fn take_beside<T: PartTable, B: Board<T>, R: Abort + Wait>(
     }
 }
 
-/// Moves modes of `pair` out of their slots again and again, while the table's partition fills. At the end nobody
-/// has the table, and the second one takes it.
+/// Moves modes of `pair` out of their slots again and again, while the table's partition fills. At the end
+/// nobody has the table, and the second one takes it.
 pub fn move_often<T: PartTable, B: Board<T>, R: Abort + Wait>(rt: &R, pair: &mut Pair<T, B>)
     ensures first { B.seat pair.new.first.board ≡ B.seat pair.old.first.board }
     ensures second { B.seat pair.new.second.board ≡ B.seat pair.old.second.board }

@@ -10,8 +10,8 @@ use shared_rule::Board;
 use std::process::Abort;
 use std::sync::Wait;
 
-/// Whether `wait` is that of `waiter` for the table in `RowShare`, with `holder` alone in its way, which has it in
-/// `Exclusive`.
+/// Whether `wait` is that of `waiter` for the table in `RowShare`, with `holder` alone in its way, which has
+/// it in `Exclusive`.
 fn is_behind(wait: &Blocked, waiter: SessionId, holder: SessionId) -> bool {
     let mut is_right = wait.session == waiter && wait.tag == TABLE && wait.mode == Mode::RowShare;
     for blocker in &wait.blockers {
@@ -61,8 +61,8 @@ fn see_none<T: PartTable, B: Board<T>, R: Abort + Wait>(rt: &R, session: &mut Ow
     expect_none(rt, session.waits(rt));
 }
 
-/// Sees with `session`, which has the table in `Exclusive`, the wait of the session numbered `waiter` for `RowShare`
-/// there.
+/// Sees with `session`, which has the table in `Exclusive`, the wait of the session numbered `waiter` for
+/// `RowShare` there.
 fn see_one<T: PartTable, B: Board<T>, R: Abort + Wait>(
     rt: &R,
     session: &mut OwnSession<T, B>,
@@ -81,7 +81,8 @@ fn ask_all<T: PartTable, B: Board<T>, R: Abort>(rt: &R, session: &mut OwnSession
     assert_eq!(rt; session.ask_all_to_cancel(), waited);
 }
 
-/// Has the first session of `pair` see how the second one waits for what it has, and end that wait as it ends all.
+/// Has the first session of `pair` see how the second one waits for what it has, and end that wait as it ends
+/// all.
 pub fn end_all_waits<T: PartTable, B: Board<T>, R: Abort + Wait>(
     rt: &R,
     pair: Pair<T, B>,

@@ -1,5 +1,5 @@
-//! Sessions in one queue, each asleep in a thread of its own, and each woken by the one before it, or all by one
-//! release.
+//! Sessions in one queue, each asleep in a thread of its own, and each woken by the one before it, or all by
+//! one release.
 
 ghost use Rattle.std.specs.Prelude.{◌≡◌};
 ghost use Rattle.lock_manager.specs.Crews.{KeepManagers};
@@ -21,7 +21,8 @@ use std::time::Clock;
 /// How many sessions sleep in the queue, beside the one that holds the table.
 pub const MANY: u32 = 32;
 
-/// What the threads share: the mode that all wait for, whether the table is taken, and how many sessions were woken.
+/// What the threads share: the mode that all wait for, whether the table is taken, and how many sessions were
+/// woken.
 #[derive(Drop)]
 struct Tally {
     mode: Mode,
@@ -31,9 +32,9 @@ struct Tally {
 }
 
 impl Tally {
-    /// Counts that the session numbered `number` was woken. Where each is woken by the one before it, ends the test
-    /// unless `number` is how many were woken so far: the holder has the number 0, and the queue is in the order of the
-    /// numbers.
+    /// Counts that the session numbered `number` was woken. Where each is woken by the one before it, ends
+    /// the test unless `number` is how many were woken so far: the holder has the number 0, and the queue is
+    /// in the order of the numbers.
     fn wake<R: Abort>(&self, rt: &R, number: SessionId) {
         let before = self.woken.fetch_add(1, Ordering::SeqCst);
         if self.mode == Mode::AccessExclusive {
@@ -57,8 +58,8 @@ impl Tally {
     }
 }
 
-/// Waits until it is the turn of `session` to join the queue: once the session with the number before its own waits.
-/// The first one to join does so after the holder, which `tally` shows.
+/// Waits until it is the turn of `session` to join the queue: once the session with the number before its own
+/// waits. The first one to join does so after the holder, which `tally` shows.
 fn see_turn<T: PartTable, B: Board<T>, R: Wait>(
     rt: &R,
     tally: &Tally,
@@ -92,8 +93,8 @@ fn sleep_and_pass_on<T: PartTable, B: Board<T>, R: Abort + Wait>(
     give_back(rt, session, tally.mode);
 }
 
-/// Takes the table first with `session`, and gives it back, which lets the others go, once all sleep, none of whom
-/// is woken.
+/// Takes the table first with `session`, and gives it back, which lets the others go, once all sleep, none of
+/// whom is woken.
 fn release_once_asleep<T: PartTable, B: Board<T>, R: Abort + Wait>(
     rt: &R,
     tally: &Tally,
@@ -126,8 +127,9 @@ impl Play for Tally {
     }
 }
 
-/// Has one of `sessions` take the table and all others wait for it in `mode`. Where that is `AccessExclusiveLock` they
-/// are woken one by one, in the order of their queue, and where it is `AccessShareLock` all by one release.
+/// Has one of `sessions` take the table and all others wait for it in `mode`. Where that is
+/// `AccessExclusiveLock` they are woken one by one, in the order of their queue, and where it is
+/// `AccessShareLock` all by one release.
 pub fn wake_sleepers<B: Board<Part> + Send, R: Abort + Clock + Threads + Wait + Sync>(
     rt: &R,
     sessions: &mut [OwnSession<Part, B>],

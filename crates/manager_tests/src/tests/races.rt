@@ -1,5 +1,5 @@
-//! Two sessions in threads of their own, which begin each round at a gate, each after a pause of its own, and what
-//! each is answered. A race has to be won by each side, or it shows nothing.
+//! Two sessions in threads of their own, which begin each round at a gate, each after a pause of its own, and
+//! what each is answered. A race has to be won by each side, or it shows nothing.
 
 ghost use Rattle.std.specs.Prelude.{◌≡◌, IfSome, None};
 
@@ -20,8 +20,8 @@ use std::thread::{Threads, join_mut};
 pub enum Race {
     /// The first one takes a weak mode by a slot, the second one a strong mode.
     WeakAgainstStrong(Mode, Mode),
-    /// The two sessions have a mode in a slot each, and ask for a strong mode. The mode of the one is in the way of the
-    /// other.
+    /// The two sessions have a mode in a slot each, and ask for a strong mode. The mode of the one is in the
+    /// way of the other.
     StrongOverWeak(Mode, Mode),
     /// The second one cancels its wait for a mode while the first one gives back what is in the way.
     CancelAgainstRelease(Mode, Mode),
@@ -61,7 +61,8 @@ fn expect_in_the_way<R: Abort>(rt: &R, answer: Option<Answer>, session: SessionI
     expect_acted(rt, answer, Err(Refusal::Conflict { session, mode, how }));
 }
 
-/// Whether `answer` says that a weak mode was granted. Otherwise a strong one was counted, or the slots were busy.
+/// Whether `answer` says that a weak mode was granted. Otherwise a strong one was counted, or the slots were
+/// busy.
 fn is_granted<R: Abort>(rt: &R, answer: Option<Answer>) -> bool {
     match answer {
         Some(Ok(Acquired::Granted)) => true,
@@ -70,8 +71,8 @@ fn is_granted<R: Abort>(rt: &R, answer: Option<Answer>) -> bool {
     }
 }
 
-/// Ends the test unless one of the two answers, `weak` and `strong`, is a grant and the other one a refusal, since
-/// only what is granted is in another's way. Notes in `wins` which.
+/// Ends the test unless one of the two answers, `weak` and `strong`, is a grant and the other one a refusal,
+/// since only what is granted is in another's way. Notes in `wins` which.
 fn expect_one<R: Abort>(
     rt: &R,
     weak: Option<Answer>,
@@ -120,8 +121,8 @@ fn try_weak_against_strong<B: Board<Part> + Send, R: Abort + Threads + Wait + Sy
     try_beside_release(rt, pair, weak, strong, round)
 }
 
-/// Has the first session of `pair` take `weak` by a slot, and give it back from there while the second one asks for
-/// `strong`.
+/// Has the first session of `pair` take `weak` by a slot, and give it back from there while the second one
+/// asks for `strong`.
 fn try_beside_release<B: Board<Part> + Send, R: Abort + Threads + Wait + Sync>(
     rt: &R,
     pair: Pair<Part, B>,
@@ -260,7 +261,8 @@ fn expect_none<T: PartTable, B: Board<T>, R: Abort>(rt: &R, session: &OwnSession
     assert_eq!(rt; session.held(TABLE).mask(), 0);
 }
 
-/// Has the session that waits cancel its wait for the first of `modes` while `session` gives back the second one.
+/// Has the session that waits cancel its wait for the first of `modes` while `session` gives back the second
+/// one.
 fn cancel_on_loan<B: Board<Part> + Send, R: Abort + Threads + Wait + Sync>(
     rt: &R,
     round: &Round<'_>,
@@ -280,8 +282,8 @@ fn cancel_on_loan<B: Board<Part> + Send, R: Abort + Threads + Wait + Sync>(
     cancelled
 }
 
-/// Has the second session of `pair` wait for `awaited`, which `held` of the first one is in the way of, and cancel
-/// as that is given back.
+/// Has the second session of `pair` wait for `awaited`, which `held` of the first one is in the way of, and
+/// cancel as that is given back.
 fn cancel_as_released<B: Board<Part> + Send, R: Abort + Threads + Wait + Sync>(
     rt: &R,
     pair: Pair<Part, B>,

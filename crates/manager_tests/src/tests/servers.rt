@@ -1,5 +1,5 @@
-//! A server's manager with as many sessions as there can be: all of them share one table, and hundreds of them wait in
-//! one queue and are let go by one release. On one thread.
+//! A server's manager with as many sessions as there can be: all of them share one table, and hundreds of
+//! them wait in one queue and are let go by one release. On one thread.
 
 ghost use Rattle.std.specs.Prelude.{◌≡◌, ◌+◌, All, length};
 ghost use Rattle.lock_manager.specs.Crews.{AreOf, SeatsAre};
@@ -89,8 +89,8 @@ fn end_one<T: PartTable, B: Board<T>, R: Abort + Wait>(
     }
 }
 
-/// Ends the transaction of `session`, which lets `waiting` go on only where it `is_last`, and puts that session after
-/// those that have `ended`.
+/// Ends the transaction of `session`, which lets `waiting` go on only where it `is_last`, and puts that
+/// session after those that have `ended`.
 fn end_next<T: PartTable, B: Board<T>, D: Desk<OwnSession<T, B>>, R: Abort + Wait>(
     rt: &R,
     desk: &D,
@@ -110,8 +110,8 @@ fn end_next<T: PartTable, B: Board<T>, D: Desk<OwnSession<T, B>>, R: Abort + Wai
     waiting
 }
 
-/// Ends the transactions of all `sessions`, the last one first, and puts these sessions after those that have `ended`.
-/// `waiting` waits until the last of them has ended.
+/// Ends the transactions of all `sessions`, the last one first, and puts these sessions after those that have
+/// `ended`. `waiting` waits until the last of them has ended.
 fn end_all<T: PartTable, B: Board<T>, D: Desk<OwnSession<T, B>>, R: Abort + Wait>(
     rt: &R,
     desk: &D,
@@ -133,8 +133,8 @@ fn end_all<T: PartTable, B: Board<T>, D: Desk<OwnSession<T, B>>, R: Abort + Wait
     waiting
 }
 
-/// Ends the transactions of all `sessions`, for which `waiting` waits, and puts its session after them once the wait
-/// was granted.
+/// Ends the transactions of all `sessions`, for which `waiting` waits, and puts its session after them once
+/// the wait was granted.
 fn end_before<T: PartTable, B: Board<T>, D: Desk<OwnSession<T, B>>, R: Abort + Wait>(
     rt: &R,
     alloc: Global,
@@ -154,8 +154,8 @@ fn end_before<T: PartTable, B: Board<T>, D: Desk<OwnSession<T, B>>, R: Abort + W
     ended
 }
 
-/// Has as many sessions of `desk` as there can be share the table in `mode`, which is counted and listed. One of them
-/// then waits for it alone, until each of the others has ended.
+/// Has as many sessions of `desk` as there can be share the table in `mode`, which is counted and listed. One
+/// of them then waits for it alone, until each of the others has ended.
 pub fn share_among_all<T: PartTable, B: Board<T>, D: Desk<OwnSession<T, B>>, R: Abort + Wait>(
     rt: &R,
     alloc: Global,
@@ -215,8 +215,8 @@ fn open_queue<T: PartTable, B: Board<T>, D: Desk<OwnSession<T, B>>, R: Abort + W
     waits
 }
 
-/// Ends the test unless `rows` are of all that wait, in the order of their sessions' numbers, of which the first one is
-/// 1.
+/// Ends the test unless `rows` are of all that wait, in the order of their sessions' numbers, of which the
+/// first one is 1.
 fn expect_in_order<R: Abort>(rt: &R, rows: &[QueueRow]) {
     let mut number = 1u16;
     for row in rows {
@@ -226,8 +226,8 @@ fn expect_in_order<R: Abort>(rt: &R, rows: &[QueueRow]) {
     assert_eq!(rt; rows.len(), LET_GO as usize + 1);
 }
 
-/// Gives the table back with `session`, for which all others wait in the order of their numbers: that lets all of
-/// them go that share it, and nobody else.
+/// Gives the table back with `session`, for which all others wait in the order of their numbers: that lets
+/// all of them go that share it, and nobody else.
 fn let_go<T: PartTable, B: Board<T>, R: Abort + Wait>(rt: &R, session: &mut OwnSession<T, B>)
     ensures seat { B.seat session.new.board ≡ B.seat session.old.board }
 {
@@ -240,7 +240,8 @@ fn let_go<T: PartTable, B: Board<T>, R: Abort + Wait>(rt: &R, session: &mut OwnS
     assert_eq!(rt; left.len(), 1);
 }
 
-/// Finds that each of `waits` was granted, ends its transaction, and puts its session at the end of `sessions`.
+/// Finds that each of `waits` was granted, ends its transaction, and puts its session at the end of
+/// `sessions`.
 fn end_queue<T: PartTable, B: Board<T>, D: Desk<OwnSession<T, B>>, R: Abort + Wait>(
     rt: &R,
     desk: &D,
@@ -260,8 +261,8 @@ fn end_queue<T: PartTable, B: Board<T>, D: Desk<OwnSession<T, B>>, R: Abort + Wa
     waits.destroy_empty();
 }
 
-/// Has hundreds of sessions of `desk` wait to share the table which one has alone, and one more wait for it alone. One
-/// release lets all go that share it, and the last one goes on once they have ended.
+/// Has hundreds of sessions of `desk` wait to share the table which one has alone, and one more wait for it
+/// alone. One release lets all go that share it, and the last one goes on once they have ended.
 pub fn let_hundreds_go<T: PartTable, B: Board<T>, D: Desk<OwnSession<T, B>>, R: Abort + Wait>(
     rt: &R,
     alloc: Global,

@@ -54,7 +54,8 @@ struct Shown {
 }
 
 impl Shown {
-    /// What two sides show in round `round`, of which nothing is done yet: `of_first` and `of_second` are to be.
+    /// What two sides show in round `round`, of which nothing is done yet: `of_first` and `of_second` are to
+    /// be.
     fn of(of_first: Task, of_second: Task, round: u32) -> Shown {
         Shown {
             tasks: (of_first, of_second),
@@ -93,8 +94,8 @@ pub struct Ended {
     pub is_first_ahead: bool,
 }
 
-/// Does with `session` what the session on `side` is to do, once both sides have begun. If that is a request, answers
-/// what it was answered.
+/// Does with `session` what the session on `side` is to do, once both sides have begun. If that is a request,
+/// answers what it was answered.
 fn act<T: PartTable, B: Board<T>, R: Abort + Wait>(
     rt: &R,
     shown: &Shown,
@@ -193,7 +194,8 @@ pub fn race_side_by_side<B: Board<Part> + Send, R: Abort + Threads + Wait + Sync
     (Pair { first, second }, ended)
 }
 
-/// Has each of two sessions of `pair` do its task, the one beside the other, and answers what each was answered.
+/// Has each of two sessions of `pair` do its task, the one beside the other, and answers what each was
+/// answered.
 pub fn act_side_by_side<B: Board<Part> + Send, R: Abort + Threads + Wait + Sync>(
     rt: &R,
     pair: Pair<Part, B>,

@@ -1,5 +1,5 @@
-//! Sessions in threads of their own, each of which sees by a table of the test that no two conflicting modes are held
-//! at a time.
+//! Sessions in threads of their own, each of which sees by a table of the test that no two conflicting modes
+//! are held at a time.
 
 ghost use Rattle.std.specs.Prelude.{◌≡◌, ◌<◌, ◌≤◌};
 ghost use Rattle.lock_manager.specs.Crews.{KeepManagers};
@@ -62,8 +62,8 @@ struct Asks {
     holders: Mutex<Holders>,
 }
 
-/// Ends the test where `modes` say that somebody has the object numbered `object` in a mode that conflicts with that at
-/// `place`.
+/// Ends the test where `modes` say that somebody has the object numbered `object` in a mode that conflicts
+/// with that at `place`.
 fn expect_free<R: Abort>(rt: &R, modes: &Modes, object: usize, place: usize)
     requires place { place < 8 }
 {
@@ -83,7 +83,8 @@ fn enter<R: Abort + Wait>(rt: &R, holders: &Mutex<Holders>, object: usize, place
     all[object][place] = all[object][place].saturating_add(1);
 }
 
-/// Takes a grant of the object numbered `object` in the mode at `place` out of `holders`, before it is given back.
+/// Takes a grant of the object numbered `object` in the mode at `place` out of `holders`, before it is given
+/// back.
 fn take_out<R: Abort + Wait>(rt: &R, holders: &Mutex<Holders>, object: usize, place: usize)
     requires object { object < 4 }
     requires place { place < 8 }
@@ -103,8 +104,8 @@ fn expect_in_the_way<R: Abort>(rt: &R, mode: Mode, place: usize)
     }
 }
 
-/// Ends the test unless `refusal` names another session than `own`, which holds a mode that conflicts with that at
-/// `place`.
+/// Ends the test unless `refusal` names another session than `own`, which holds a mode that conflicts with
+/// that at `place`.
 fn expect_conflict<R: Abort>(rt: &R, refusal: Refusal, own: SessionId, place: usize)
     requires place { place < 8 }
 {
@@ -116,8 +117,8 @@ fn expect_conflict<R: Abort>(rt: &R, refusal: Refusal, own: SessionId, place: us
     expect_in_the_way(rt, mode, place);
 }
 
-/// Asks for a mode on an object in round `round` of `plan`, and gives it back where it is granted. `holders` has who
-/// was granted what.
+/// Asks for a mode on an object in round `round` of `plan`, and gives it back where it is granted. `holders`
+/// has who was granted what.
 fn ask<T: PartTable, B: Board<T>, R: Abort + Wait>(
     rt: &R,
     holders: &Mutex<Holders>,

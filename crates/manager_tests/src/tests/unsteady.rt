@@ -1,5 +1,5 @@
-//! Races on boards that pause now and then, before and after a step. So other sessions' steps come between any two
-//! of a session, far more often than threads meet there by themselves.
+//! Races on boards that pause now and then, before and after a step. So other sessions' steps come between
+//! any two of a session, far more often than threads meet there by themselves.
 
 ghost use Rattle.std.specs.Prelude.{◌≡◌, ◌≤◌, All, IfOk};
 ghost use Rattle.shared_rule.specs.Opening.{AreNew};
@@ -180,8 +180,8 @@ fn close_all<'a, R: Wait>(rt: &R, opener: &mut SeatOpener<Part>, mut sessions: V
     sessions.destroy_empty();
 }
 
-/// Has as many sessions as `crew` has, but no more than 64, do what it does at a table of their own, on boards that
-/// pause.
+/// Has as many sessions as `crew` has, but no more than 64, do what it does at a table of their own, on
+/// boards that pause.
 pub fn act_with_pauses<R: Abort + Clock + Threads + Wait + Sync + Print>(
     rt: &R,
     alloc: Global,

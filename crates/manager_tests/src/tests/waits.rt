@@ -74,7 +74,8 @@ pub fn find_still<T: PartTable, B: Board<T>, R: Abort>(
     waiting
 }
 
-/// Ends the wait of `waiting` by one look, which must find it granted, and answers the session. Else the test ends.
+/// Ends the wait of `waiting` by one look, which must find it granted, and answers the session. Else the test
+/// ends.
 pub fn find_granted<T: PartTable, B: Board<T>, R: Abort>(
     rt: &R,
     waiting: OwnWaiting<T, B>,
@@ -87,7 +88,8 @@ pub fn find_granted<T: PartTable, B: Board<T>, R: Abort>(
     }
 }
 
-/// Asks the session numbered `number` to cancel, with `session`. Ends the test where that isn't answered `asked`.
+/// Asks the session numbered `number` to cancel, with `session`. Ends the test where that isn't answered
+/// `asked`.
 pub fn ask<T: PartTable, B: Board<T>, R: Abort>(
     rt: &R,
     session: &mut OwnSession<T, B>,

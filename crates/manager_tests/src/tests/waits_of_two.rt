@@ -1,4 +1,5 @@
-//! Cases of a wait: two sessions of which one waits for the other, on one thread and asleep in one of its own.
+//! Cases of a wait: two sessions of which one waits for the other, on one thread and asleep in one of its
+//! own.
 
 ghost use Rattle.std.specs.Prelude.{◌≡◌};
 
@@ -13,8 +14,8 @@ use std::process::Abort;
 use std::sync::Wait;
 use std::thread::Threads;
 
-/// Takes the table in `ShareLock` with `session`, which looks `looks` times at its wait at most. Ends the test where that
-/// isn't answered `expected`.
+/// Takes the table in `ShareLock` with `session`, which looks `looks` times at its wait at most. Ends the
+/// test where that isn't answered `expected`.
 fn acquire_in_looks<T: PartTable, B: Board<T>, R: Abort + Wait>(
     rt: &R,
     session: &mut OwnSession<T, B>,
@@ -31,8 +32,8 @@ fn acquire_in_looks<T: PartTable, B: Board<T>, R: Abort + Wait>(
     expect_answer(rt, answer, expected);
 }
 
-/// Has the second session of `pair` give up its waits, after one look and after a hundred. They leave nothing. What need
-/// not wait is had at once.
+/// Has the second session of `pair` give up its waits, after one look and after a hundred. They leave
+/// nothing. What need not wait is had at once.
 pub fn give_up<T: PartTable, B: Board<T>, R: Abort + Wait>(rt: &R, pair: Pair<T, B>) -> Pair<T, B>
     ensures first { B.seat result.first.board ≡ B.seat pair.first.board }
     ensures second { B.seat result.second.board ≡ B.seat pair.second.board }
@@ -66,8 +67,8 @@ fn wait_as<T: PartTable, B: Board<T>, R: Abort + Wait>(
     session
 }
 
-/// Has the second session of `pair` wait, be seen and asked to cancel by the first one, which holds, and leave. A
-/// request to cancel that came before the wait does nothing.
+/// Has the second session of `pair` wait, be seen and asked to cancel by the first one, which holds, and
+/// leave. A request to cancel that came before the wait does nothing.
 pub fn leave_as_asked<T: PartTable, B: Board<T>, R: Abort + Wait>(
     rt: &R,
     pair: Pair<T, B>,
@@ -172,8 +173,8 @@ pub fn wait_for_nothing<T: PartTable, B: Board<T>, R: Abort + Wait>(
     Pair { first, second }
 }
 
-/// Has a session sleep in its thread until the other one of `pair`, in another thread, gives back, or asks it to
-/// cancel where `asks`.
+/// Has a session sleep in its thread until the other one of `pair`, in another thread, gives back, or asks it
+/// to cancel where `asks`.
 pub fn sleep_in_a_thread<B: Board<Part> + Send, R: Abort + Threads + Wait + Sync>(
     rt: &R,
     pair: Pair<Part, B>,

@@ -39,8 +39,8 @@ fn see_asleep<T: PartTable, B: Board<T>, R: Wait>(
     pause();
 }
 
-/// Asks for the table with `session`, and sleeps until the wait is over. Ends the test where that isn't answered
-/// `expected`.
+/// Asks for the table with `session`, and sleeps until the wait is over. Ends the test where that isn't
+/// answered `expected`.
 fn sleep_until<T: PartTable, B: Board<T>, R: Abort + Wait>(
     rt: &R,
     session: &mut OwnSession<T, B>,
@@ -52,8 +52,8 @@ fn sleep_until<T: PartTable, B: Board<T>, R: Abort + Wait>(
     expect_answer(rt, answer, expected);
 }
 
-/// Takes the wait `ahead`, which is lent, out of the queue, once the session numbered `number` sleeps after it in the
-/// queue.
+/// Takes the wait `ahead`, which is lent, out of the queue, once the session numbered `number` sleeps after
+/// it in the queue.
 fn leave_once_asleep<T: PartTable, B: Board<T>, R: Abort + Wait>(
     rt: &R,
     holder: &mut OwnSession<T, B>,
@@ -71,8 +71,8 @@ fn leave_once_asleep<T: PartTable, B: Board<T>, R: Abort + Wait>(
     }
 }
 
-/// Has the session `ahead` in the queue leave it, and the one `behind` it, who sleeps in a thread of its own, be
-/// granted.
+/// Has the session `ahead` in the queue leave it, and the one `behind` it, who sleeps in a thread of its own,
+/// be granted.
 fn leave_side_by_side<B: Board<Part> + Send, R: Abort + Threads + Wait + Sync>(
     rt: &R,
     holder: &mut OwnSession<Part, B>,
@@ -94,8 +94,8 @@ fn leave_side_by_side<B: Board<Part> + Send, R: Abort + Threads + Wait + Sync>(
 }
 
 /// Has three sessions of `desk` want one table: the first one holds it, the second one waits for a mode that
-/// conflicts, and the third one sleeps, since only that wait is in its way. The wait is cancelled, and the third
-/// session goes on.
+/// conflicts, and the third one sleeps, since only that wait is in its way. The wait is cancelled, and the
+/// third session goes on.
 pub fn let_go_by_a_cancel<
     B: Board<Part> + Send,
     D: Desk<OwnSession<Part, B>>,

@@ -1,5 +1,6 @@
-//! Listings beside sessions that lock and unlock. Whatever a row says was so at some time during the listing, and a
-//! hold that was there all the while has a row. Strong requests move holds from slots to the table meanwhile.
+//! Listings beside sessions that lock and unlock. Whatever a row says was so at some time during the listing,
+//! and a hold that was there all the while has a row. Strong requests move holds from slots to the table
+//! meanwhile.
 
 ghost use Rattle.std.specs.Prelude.{◌≡◌, ◌<◌};
 ghost use Rattle.lock_manager.specs.Crews.{KeepManagers};
@@ -20,17 +21,18 @@ pub const SESSIONS: u32 = 4;
 
 const LISTINGS: u32 = 1_000;
 
-/// How often a session disturbs the next one while it has its own hold, so that the hold lasts longer than a listing
-/// takes.
+/// How often a session disturbs the next one while it has its own hold, so that the hold lasts longer than a
+/// listing takes.
 const DISTURBANCES: u32 = 8;
 
 /// What each session shows of the hold on its own relation, by numbers that rise.
 #[derive(Drop)]
 struct Words {
-    /// For each session a number that is odd from before the session asks for its hold until it has given that back, or
-    /// was refused.
+    /// For each session a number that is odd from before the session asks for its hold until it has given
+    /// that back, or was refused.
     may_hold: [AtomicU64; 4],
-    /// For each session a number that is odd from when the session has its hold until before it gives that back.
+    /// For each session a number that is odd from when the session has its hold until before it gives that
+    /// back.
     holds: [AtomicU64; 4],
     /// Whether the first session has listed for the last time.
     is_over: AtomicBool,
@@ -56,8 +58,8 @@ impl Words {
     }
 }
 
-/// Whether a word stayed as it was between two looks that showed `before` and `after`, at an odd number where `odd`,
-/// otherwise at an even one.
+/// Whether a word stayed as it was between two looks that showed `before` and `after`, at an odd number where
+/// `odd`, otherwise at an even one.
 fn stayed(before: u64, after: u64, odd: bool) -> bool {
     before == after && (before % 2 == 1) == odd
 }
@@ -76,8 +78,8 @@ fn relation(place: usize) -> Tag
     Tag::relation(5, 20_000 | (place as u32))
 }
 
-/// Asks with `session` for the strongest mode on the relation of the session at `next`, so that its hold is moved to
-/// the table, and gives back what it got.
+/// Asks with `session` for the strongest mode on the relation of the session at `next`, so that its hold is
+/// moved to the table, and gives back what it got.
 fn disturb<T: PartTable, B: Board<T>, R: Abort + Wait>(
     rt: &R,
     session: &mut OwnSession<T, B>,
@@ -108,7 +110,8 @@ fn disturb_often<T: PartTable, B: Board<T>, R: Abort + Wait>(
     }
 }
 
-/// Holds the relation of `session` for a while, if nobody is in the way, and disturbs the next session meanwhile.
+/// Holds the relation of `session` for a while, if nobody is in the way, and disturbs the next session
+/// meanwhile.
 fn hold_once<T: PartTable, B: Board<T>, R: Abort + Wait>(
     rt: &R,
     words: &Words,
@@ -154,8 +157,8 @@ fn rows_of(listing: &Listing, place: usize) -> u32
     rows
 }
 
-/// Ends the test unless `rows` is how many rows there can be of a hold that was `never` there meanwhile, or was there
-/// `throughout`.
+/// Ends the test unless `rows` is how many rows there can be of a hold that was `never` there meanwhile, or
+/// was there `throughout`.
 fn expect_rows_of<R: Abort>(rt: &R, rows: u32, never: bool, throughout: bool) {
     assert!(rt; rows <= 2, "{rows} rows of one hold");
     assert!(rt; !never || rows == 0, "a row of a hold that nobody had");
@@ -228,8 +231,8 @@ fn hold_often<T: PartTable, B: Board<T>, R: Abort + Wait>(
 }
 
 impl Play for Words {
-    /// Has `session`, where it is the first one, list while it has its relation, and any other hold its relation over
-    /// and over.
+    /// Has `session`, where it is the first one, list while it has its relation, and any other hold its
+    /// relation over and over.
     fn play<T: PartTable, B: Board<T>, R: Abort + Clock + Wait>(
         &self,
         rt: &R,

@@ -15,7 +15,8 @@ use Rattle.lock_table.specs.Queue.{conflicts_with_some, IsFree, IsFirstAgainst, 
 use Rattle.lock_table.proofs.Lemmas.Holds.{SetHoldAt, here, elsewhere, set_hold-at}
 use Rattle.lock_table.proofs.Lemmas.Find.{same_any}
 
--- One object in two lists of holds: the second has on it what the first has, and some more, which is in nobody's way.
+-- One object in two lists of holds: the second has on it what the first has, and some more, which is in
+-- nobody's way.
 
 -- what the second has more on the object
 abbrev pub More : Type 0

@@ -60,7 +60,8 @@ on_the_way-safe : (w : World) (events : List Event) (worlds : List World) → Sa
 on_the_way-safe w events worlds safe run zero u at = subst SafeWorld (let same : w ≡ u = cc in same) safe
 on_the_way-safe w events worlds safe run (suc place) u at = through-safe w events worlds safe run place u at
 
--- A content that a session took is the partition's in a World on the way, in which whatever holds of each safe World holds.
+-- A content that a session took is the partition's in a World on the way, in which whatever holds of each
+-- safe World holds.
 pub taken-in_world : (limit groups : ℕ) (events : List Event) (worlds : List World) (s p : ℕ) (before after : List TraceEntry) (taken : Content) (P : World → Type 0) → SafeWorld (opening limit groups)
     → RunsThrough (opening limit groups) events worlds → (last_of (opening limit groups) worlds).sessions.trace s ≡ before ++ Took p taken ∷ after
     → ((u : World) → SafeWorld u → taken ≡ u.contents.now p → P u) → InSomeWorld (opening limit groups ∷ worlds) s before P

@@ -41,7 +41,8 @@ opening-list limit groups = λ i. record {
   waits = λ o. [];
 }
 
--- What the content of an object's partition answers, the list answers, where the mode is weak, or counted past each session.
+-- What the content of an object's partition answers, the list answers, where the mode is weak, or counted
+-- past each session.
 pub alike : (w : World) → SafeWorld w → (s : ℕ) (t : Tag) (m : Mode) → AnswersAlike w s t m (w.contents.now (partition_of t))
 alike w safe s t m = record {
   clashes = λ cleared clash is.

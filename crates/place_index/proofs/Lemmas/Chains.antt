@@ -1,5 +1,5 @@
--- The chains after a place is noted or its note is taken away, over plain functions: what each place is noted under, each
--- chain's head, and each place's next one.
+-- The chains after a place is noted or its note is taken away, over plain functions: what each place is noted
+-- under, each chain's head, and each place's next one.
 use Rattle.std.proofs.Common.{◌≡◌, ◌≢◌, ℕ, ◌+◌, ◌*◌, ◌^◌, ◌<◌, ◌≤◌, true, false, sym, ap, subst, refl, ◌∙◌, inl, inr, arith}
 use Rattle.std.specs.Prelude.{Option, Some, None, ◌⊎◌}
 use Rattle.std.proofs.lemmas.Bool.{false≢true, cases_eq, cases_lt, eqb-true, eq-eqb, ne_eqb}

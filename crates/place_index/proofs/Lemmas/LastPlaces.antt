@@ -1,4 +1,5 @@
--- What a chain's last place below a number is after the chain has one place more or less, over plain functions.
+-- What a chain's last place below a number is after the chain has one place more or less, over plain
+-- functions.
 use Rattle.std.proofs.Common.{◌≡◌, ◌≢◌, ℕ, ◌+◌, ◌<◌, ◌≤◌, Bool, true, false, sym, ap, ◌∙◌, inl, inr, arith}
 use Rattle.std.proofs.lemmas.Bool.{false≢true, cases_eq}
 use Rattle.place_index.specs.Chains.{end_of_chain, IsLast}

@@ -26,7 +26,8 @@ use Rattle.shared_rule.specs.WasSo.{WasInSlot}
 -- What an adopt adds to a content was in the slot that it names.
 
 module _ (p owner slot : ℕ) (o : Tag) (m : Mode) (taken : Content) (had_not : taken.holds owner o m ≡ false) where
-  -- The partition is in hand with that content taken, no move is recorded or the adopt, and the content has the hold.
+  -- The partition is in hand with that content taken, no move is recorded or the adopt, and the content has
+  -- the hold.
   record IsAdopted (hand : Option Hand) (now : Content) : Type 0 where
     mine : Hand
     in_hand : hand ≡ Some mine

@@ -34,8 +34,8 @@ module _ {T : Type 0} where
       → after ≡ shelves_out (parts_in_hand after)
   out-still before after same out = subst (λ (shelves : List (ℕ × Kept T)). shelves ≡ shelves_out (parts_in_hand shelves)) (sym same) out
 
-  -- A call leaves a board at rest that leaves the session's lists as they were and nothing to do for those who wait, with those contents
-  -- off their shelves that are in hand;
+  -- A call leaves a board at rest that leaves the session's lists as they were and nothing to do for those
+  -- who wait, with those contents off their shelves that are in hand;
   pub led-rests : {content : T → Content} {number : ℕ} {before after : Seat (Kept T) (View T)} {a : Account} {quiet : List Quiet} {todo : Todo}
       → LedBy content before after a quiet todo → a.lists ≡ (account_at content before).lists → todo ≡ nothing_to_do
       → after.me.1 ≡ shelves_out (parts_in_hand after.me.1) → IsAtRest number before.me.0 before.me.1 → IsAtRest number after.me.0 after.me.1

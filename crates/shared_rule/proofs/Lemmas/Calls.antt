@@ -22,7 +22,8 @@ use Rattle.shared_rule.specs.Owed.{owing, asking, waking, owed_words, owed_noted
 use Rattle.shared_rule.specs.Ruled.{OwesAsTold}
 use Rattle.shared_rule.specs.Tells.{WordsTell, Tells}
 
--- Whom a session owes a call, of those who wait for a lock of the table, is among those whom its history has to wake.
+-- Whom a session owes a call, of those who wait for a lock of the table, is among those whom its history has
+-- to wake.
 
 -- Who is among those to wake once one more is, and once one was woken.
 among-first : (x k : ℕ) (xs : List ℕ) → x ≡ k → is_among (x ∷ xs) k ≡ true

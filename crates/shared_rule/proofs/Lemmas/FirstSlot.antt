@@ -22,7 +22,8 @@ use Rattle.lock_world.proofs.Lemmas.Slots.Eligible.{shown-in_use}
 use Rattle.lock_world.proofs.Lemmas.Slots.Remembered.{no_hold-no_slot}
 use Rattle.shared_rule.specs.History.{blank_account, slots_here}
 
--- A session that has nothing may set two modes of a relation in its first slot, where each has one group of slots.
+-- A session that has nothing may set two modes of a relation in its first slot, where each has one group of
+-- slots.
 
 -- a relation of its database
 abbrev pub table : Tag

@@ -27,8 +27,8 @@ use Rattle.shared_rule.specs.Todos.{nothing_to_do, todo_noted}
 use Rattle.shared_rule.specs.Owed.{first_owed, owed_noted}
 use Rattle.shared_rule.proofs.Lemmas.Taken.{todo-noted, owed-noted}
 
--- What a seat at which all sessions are knows stays as its first session makes steps that change neither its own holds nor what it knows of
--- slots and counters.
+-- What a seat at which all sessions are knows stays as its first session makes steps that change neither its
+-- own holds nor what it knows of slots and counters.
 
 -- ---- steps at a seat
 

@@ -87,7 +87,8 @@ module _ {T : Type 0} (content : T → Content) (before after : Seat (Kept T) (V
   pub led_by-todo : (a : Account) (its : List Quiet) (todo other : Todo) → LedBy content before after a its todo → todo ≡ other → LedBy content before after a its other
   led_by-todo a its todo other led same = subst (LedBy content before after a its) same led
 
-  -- What a call then makes of it, with the quiet steps that it adds to these, and what it makes of what is to do.
+  -- What a call then makes of it, with the quiet steps that it adds to these, and what it makes of what is to
+  -- do.
   pub led_by-then : (last : Seat (Kept T) (View T)) (a : Account) (its : List Quiet) (todo : Todo) (next : Account → Account) (adds : List Quiet → List Quiet) (does : Todo → Todo)
       → LedBy content before after a its todo → LedBy content after last (next (account_at content after)) (adds (quiet_at after)) (does (todo_at after))
       → LedBy content before last (next a) (adds its) (does todo)
@@ -133,8 +134,8 @@ pub led-self : {T : Type 0} (content : T → Content) (seat : Seat (Kept T) (Vie
     → Led content seat seat (account_at content seat)
 led-self content seat has = led-none content seat seat has (record { table_id = refl; id = refl }) refl
 
--- What a load of its own sleep word makes of the account: where it shows 0 the session stands in no list, and else
--- nothing is changed.
+-- What a load of its own sleep word makes of the account: where it shows 0 the session stands in no list, and
+-- else nothing is changed.
 pub slept-told : (a : Account) (shown : ℕ) → shown ≡ 0
     → account_loading_sleep a shown ≡ record a { lists = record (a.lists) { stands = None } }
 slept-told a shown zero = ap (account_loading_sleep a) zero

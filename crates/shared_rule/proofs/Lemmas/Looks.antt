@@ -17,7 +17,8 @@ use Rattle.shared_rule.specs.declared.history.WordMark.TheVariants as word
 use Rattle.shared_rule.specs.Looks.{OwnLooks, no_looks, looks_words, looks_noted, looks_told, looks_of}
 use Rattle.shared_rule.specs.Tells.{WordsTell, Tells, TellsTurn, AreTurnsTold, is_of_seats, is_turn_of, turns_of}
 
--- What a session's words showed as it loaded them last is what its history tells: it is so by its own turns of the run.
+-- What a session's words showed as it loaded them last is what its history tells: it is so by its own turns
+-- of the run.
 
 -- what a step of a session, and a turn, make of it
 abbrev looks_step : OwnLooks → Step → OwnLooks

@@ -19,8 +19,8 @@ use Rattle.shared_rule.proofs.Lemmas.Standing.{there-within, there-one}
 use Rattle.shared_rule.proofs.Lemmas.Views.{history-alone, nobody-behind}
 use Rattle.shared_rule.proofs.Lemmas.OpenedViews.{one-get, still-shown, with_numbers}
 
--- Sessions that meet at one seat, each behind those that came before it, and part again, the last one first: the views show what
--- the World after it has.
+-- Sessions that meet at one seat, each behind those that came before it, and part again, the last one first:
+-- the views show what the World after it has.
 
 -- Lists with one more behind.
 module _ {A : Type 0} where

@@ -97,7 +97,8 @@ last-later : {A : Type 0} (x y : A) (others before : List A) (last : A) → x �
 last-later x y others [] last same = absurd (cc (same))
 last-later x y others (z ∷ before) last same = (before, cc (same))
 
--- The first event is the session's own: that load, or, with another step of the session behind it, one before it.
+-- The first event is the session's own: that load, or, with another step of the session behind it, one before
+-- it.
 last-step : (k : ℕ) (w : World) (event : Event) (events : List Event) (v : World) (index shown : ℕ) (before : List Step) → Leads w (event ∷ events) v
     → NoOther k (event ∷ events) → steps_of k (event ∷ events) ≡ before ++ LoadStrong index shown ∷ [] → is_step_of k event ≡ true
     → ((rest : List Step) → steps_of k events ≡ rest ++ LoadStrong index shown ∷ [] → shown ≡ v.words.strong index) → shown ≡ v.words.strong index

@@ -188,7 +188,8 @@ module _ {T : Type 0} (content : T → Content) (w v : World) (views : List (Vie
   closed-stood : (y : History T) → StandsClosed after_it y → StandsClosed views y
   closed-stood y = set-among (λ (z : View T). z.closed) views id view at (noting view mark) y (λ place get. (place, get))
 
-  -- The steps are told of these events then, where they are of the session with its new mark, and of all others as they were.
+  -- The steps are told of these events then, where they are of the session with its new mark, and of all
+  -- others as they were.
   module _ (events later : List Event) (told : StepsAreTold views w.numbers events)
       (own-told : AreTold x.number (mark ∷ x.marks) (steps_of x.number later))
       (same : (number : ℕ) → number ≢ x.number → steps_of number later ≡ steps_of number events) where
@@ -268,7 +269,8 @@ module _ {T : Type 0} (content : T → Content) (w v : World) (views : List (Vie
         others_ y (λ e. elsewhere.1 (sym old.seat ∙ ap seats.seat_of e ∙ own.seat)) (each y elsewhere.0)
   ]
 
-  -- So the run goes on by the turn that the mark tells, and what stands beside the World is as the histories tell then.
+  -- So the run goes on by the turn that the mark tells, and what stands beside the World is as the histories
+  -- tell then.
   module _ (sizes : TableSizes) (events later : List Event) (kept : WakesAreKept sizes views events w) (turn : Turn) (keeps : KeepsInOrder w kept.beside turn v)
       (its_events : events_of (kept.turns ++ turn ∷ []) ≡ later) (own_turn : is_turn_of x.number turn ≡ true) (tells : TellsTurn x.number mark turn)
       (other_turn : (k : ℕ) → k ≢ x.number → is_turn_of k turn ≡ false)

@@ -80,7 +80,8 @@ module _ {T : Type 0} (content : T → Content) (before locked : Seat (Kept T) (
   won-todo number stood got off =
       (λ i. todo_setting_ok number (ap (λ (b : Account). b.lists) locks.account i) ((locks.todo ∙ got) i) lock) ∙ won-ok number stood off
 
-  -- or, where somebody has taken the session off, release-ok is set, the list unlocked, and the session sleeps until it is told.
+  -- or, where somebody has taken the session off, release-ok is set, the list unlocked, and the session
+  -- sleeps until it is told.
   pub taken_off-told :
       (flagged unlocked after : Seat (Kept T) (View T)) (number : ℕ) → a.lists ≡ queued_for lock → todo_at before ≡ todo_got lock → stands_in number waiters ≡ false
       → LedTo content locked flagged (account_at content locked) (todo_setting_ok number (account_at content locked).lists (todo_at locked) lock)

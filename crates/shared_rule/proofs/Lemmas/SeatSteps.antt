@@ -131,7 +131,8 @@ module _ {T : Type 0} (views : List (View T)) (id : ℕ) (view : View T) (other 
     ]
   ]
 
-  -- Whoever has a seat has one then, those of the view that is another, and the one who joined, as is said here.
+  -- Whoever has a seat has one then, those of the view that is another, and the one who joined, as is said
+  -- here.
   pub joined-seat : (number : ℕ)
       → ((place : ℕ) (h : History T) → slice_get view.sessions place ≡ Some h → h.number ≡ number → (now : ℕ) × (slice_get new.sessions now ≡ Some h))
       → (k ≡ number → (now : ℕ) × (slice_get new.sessions now ≡ Some (record { number = k; marks = marks })))

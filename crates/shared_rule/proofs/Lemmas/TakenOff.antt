@@ -15,8 +15,8 @@ use Rattle.lock_world.proofs.Lemmas.Counters.Lists.{any-filter, count-cons}
 use Rattle.shared_rule.specs.LwLocks.{no_lists}
 use Rattle.shared_rule.specs.Wakeups.{all_taken_off, all_told, MayTakeAllOff, MayTellAll}
 
--- Taking off one after the other those whom a wakeup names leaves those whom it leaves, and telling each of them leaves
--- nobody to tell.
+-- Taking off one after the other those whom a wakeup names leaves those whom it leaves, and telling each of
+-- them leaves nobody to tell.
 
 -- Whoever stands in a list is counted there, and whoever is not counted is missed by nobody.
 some-counted : (k : ℕ) (ws : List LwWaiter) → stands_in k ws ≡ true → 0 < times_in k ws

@@ -97,7 +97,8 @@ tells-no_seats number (MarkedGranted part other done woken now) its tells = ap i
 tells-no_seats number (LeftQueue woken now) its tells = ap is_of_seats tells
 tells-no_seats number (OfWords mark) its tells = words-no_seats number mark its tells
 
--- The steps of a session after one more event: with its step, where it is one of the session's, and else as they were.
+-- The steps of a session after one more event: with its step, where it is one of the session's, and else as
+-- they were.
 steps-push : (number : ℕ) (events : List Event) (event : Event) → steps_of number (events ++ event ∷ []) ≡ steps_of number events ++ steps_of number (event ∷ [])
 steps-push number events event =
     ap (map (λ (e : Event). e.step)) (filter-append (is_step_of number) events (event ∷ []))
@@ -160,7 +161,8 @@ module _ {T : Type 0} (these : View T → List (History T)) (views : List (View 
     | inr elsewhere ↦ elsewhere.0
   ]
 
-  -- Whatever follows for whoever stands in this view, and for whoever has a seat beside it, follows for whoever has a seat.
+  -- Whatever follows for whoever stands in this view, and for whoever has a seat beside it, follows for
+  -- whoever has a seat.
   pub set-seat : {P : Type 0} (number : ℕ) → ((place : ℕ) (h : History T) → slice_get view.sessions place ≡ Some h → h.number ≡ number → P)
       → (HasSeat (slice_set views id new) number → P) → HasSeat views number → P
   set-seat number here beside has = elim (cases_eq has.stands.seat id) [

@@ -15,7 +15,8 @@ use Rattle.lock_table.specs.Content.{Content}
 use Rattle.wait_queue.specs.declared.queues.Blocker.{Blocker}
 use Rattle.wait_queue.specs.Queues.{by_modes, holding_of, lists_below}
 
--- What stands before the first element that passes is what stands before a place where one does, and none before it.
+-- What stands before the first element that passes is what stands before a place where one does, and none
+-- before it.
 position-at : {X : Type 0} (p : X → Bool) (xs : List X) (i : ℕ) (x : X) → list_any p (take i xs) ≡ false → slice_get xs i ≡ Some x → p x ≡ true → position_or_len p xs ≡ i
 position-at p [] i x none at passes = absurd (cc)
 position-at p (y ∷ xs) zero x none at passes = let same : y ≡ x = cc in ap (λ b. cond (not b) (1 + position_or_len p xs) 0) (ap p same ∙ passes)

@@ -96,7 +96,8 @@ last-only : (old old1 new1 : OpenerState PartView) (number : ℕ) (a : Account) 
 last-only old old1 new1 number a q none gathers first is =
     is ∙ ap (λ xs. first ∷ behind_of xs) (ap (λ (o : OpenerState PartView). o.gathered) gathers.opener ∙ ap (λ xs. xs ++ gathers.last ∷ []) none)
 
--- The last one of those gathered is sent back: the others stay, and its account is the one that its marks show,
+-- The last one of those gathered is sent back: the others stay, and its account is the one that its marks
+-- show,
 abbrev SendsLast : OpenerState PartView → OpenerState PartView → Account → Type 0
 SendsLast old new a =
     (before : List (History PartView)) (last : History PartView) → old.gathered ≡ before ++ last ∷ []

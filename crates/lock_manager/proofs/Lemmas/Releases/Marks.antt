@@ -34,7 +34,8 @@ use Rattle.shared_rule.specs.Lawful.{MayMarkBy, MayPutPart}
 use Rattle.lock_manager.specs.Releases.{Wakens, Tells, account_marked, IsMarking}
 use Rattle.lock_manager.proofs.Lemmas.Rest.Ends.{own_with-key}
 
--- Telling those whom a move lets go: the first mark makes the move, and once all are marked the partition is put.
+-- Telling those whom a move lets go: the first mark makes the move, and once all are marked the partition is
+-- put.
 
 -- whether this is the session that was told
 abbrev is_told : ℕ → ℕ × Mode → Bool

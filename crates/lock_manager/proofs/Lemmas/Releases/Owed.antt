@@ -6,7 +6,8 @@ use Rattle.shared_rule.specs.History.{sessions_told}
 use Rattle.shared_rule.specs.Owed.{owing, waking}
 use Rattle.shared_rule.proofs.Lemmas.Stacks.{with_owed, waking-first}
 
--- Whom a session owes a wake, while it marks those whom a move lets go and then wakes them, in the order of the list.
+-- Whom a session owes a wake, while it marks those whom a move lets go and then wakes them, in the order of
+-- the list.
 
 -- At first it owes nobody one.
 pub owed-none : (s : Stack) (items : List (ℕ × Mode)) → s.owed ≡ [] → s ≡ with_owed s (sessions_told (take 0 items))

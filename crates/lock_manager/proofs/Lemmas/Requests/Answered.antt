@@ -27,7 +27,8 @@ begins-refused kind seat owned a b uses left tag mode LocalFull requests = absur
 begins-refused kind seat owned a b uses left tag mode NoMemory requests = inr requests
 begins-refused kind seat owned a b uses left tag mode _ requests = requests
 
--- By what the session owns there was nothing to answer: it has no entry of the mode, its count isn't full, and there was a place.
+-- By what the session owns there was nothing to answer: it has no entry of the mode, its count isn't full,
+-- and there was a place.
 pub answers-refused :
     (kind : Kind) (seat : Seated) (owned : Owned) (a b : Account) (uses left : UseCounts) (tag : Tag) (mode : Mode) (owner : Owner) (refusal : Refusal)
     → Requests kind seat a uses tag mode (Err refusal) b left → has_entry owned.entries tag mode ≡ false

@@ -30,8 +30,8 @@ by_slot-account groups limit number a b before uses left tag mode eligible grant
       trace = sym (ap (λ (x : Account). x.trace) granted.account) i;
     })
 
--- Once it is tried it is answered by what the session has of its own where its slots are full alone: then this holds, which does
--- for such an answer.
+-- Once it is tried it is answered by what the session has of its own where its slots are full alone: then
+-- this holds, which does for such an answer.
 pub tried-untouched :
     (P : Type 0) (groups number : ℕ) (a b : Account) (uses left : UseCounts) (tag : Tag) (mode : Mode) (refusal : Refusal)
     → TriesGrant groups number a uses tag mode (Err refusal) b left → IsOwnAnswerBySlot (Err refusal)

@@ -10,7 +10,8 @@ use Rattle.lock_table.specs.Queue.{waits_there}
 use Rattle.lock_world.specs.Headline.{IsThereAs}
 use Rattle.lock_world.proofs.Lemmas.Headline.{clash-in_the_way}
 
--- What a refused request names: what it clashes with is another session's where that which asks has no wait there.
+-- What a refused request names: what it clashes with is another session's where that which asks has no wait
+-- there.
 is_there-another :
     (how : How) (content : Content) (number : ℕ) (tag : Tag) (other : ℕ) (its : Mode) → waits_there (content.waits tag) number ≡ false
     → IsThereAs how content number tag other its → other ≢ number

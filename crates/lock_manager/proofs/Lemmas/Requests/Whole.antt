@@ -51,7 +51,8 @@ decided-trace kind number a b tag mode (Err refusal) d = ap (λ (x : Account). x
 
 -- ---- what leads to the episode that decides
 
--- the account when that begins: it may remember other slots than before, have counted more, and have a longer trace
+-- the account when that begins: it may remember other slots than before, have counted more, and have a longer
+-- trace
 abbrev pub account_led : Account → (ℕ → ℕ) → List Counted → List TraceEntry → Account
 account_led a remembered counted trace = record a {
   fast = record (a.fast) { remembered = remembered; counted = counted };

@@ -1,4 +1,5 @@
--- What a session at rest has in its account, and that it rests again once its entries have changed with its account.
+-- What a session at rest has in its account, and that it rests again once its entries have changed with its
+-- account.
 use Rattle.std.proofs.Common.{◌≡◌, ℕ, ◌<◌, Bool, true, false, ◌==◌, List, [], ◌∷◌, refl, sym, ap, ◌∙◌, subst, inl, inr}
 use Rattle.std.specs.Prelude.{if◌then◌else◌}
 use Rattle.std.proofs.lemmas.Bool.{cases_Bool, false≢true}

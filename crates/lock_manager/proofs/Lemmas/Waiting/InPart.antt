@@ -30,7 +30,8 @@ use Rattle.lock_manager.proofs.Lemmas.Releases.Marks.{leave-once, leave-stood}
 
 -- The end of a wait in its partition: it is taken out of the queue, or it was granted.
 
--- What a removal tells, by the number of the session that makes it: the wait was not there, and nothing has changed,
+-- What a removal tells, by the number of the session that makes it: the wait was not there, and nothing has
+-- changed,
 pub removal-found :
     (taken put : Content) (tag : Tag) (k number : ℕ) (was_granted : Bool) → k ≡ number → was_granted ≡ not (waits_there (taken.waits tag) k)
     → OnTrue was_granted (put ≡ taken) → was_granted ≡ true → (waits_there (taken.waits tag) number ≡ false) × (put ≡ taken)

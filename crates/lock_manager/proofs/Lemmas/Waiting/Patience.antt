@@ -10,7 +10,8 @@ use Rattle.lock_manager.proofs.Lemmas.Waiting.Watch.{watch-more}
 -- A session that looks at its wait word for as long as its caller says.
 
 module _ {K : Type 0} (Says : K → Bool → K → Type 0) where
-  -- So far it has seen neither a grant nor that it was asked to cancel, and its caller has said to go on after each look.
+  -- So far it has seen neither a grant nor that it was asked to cancel, and its caller has said to go on
+  -- after each look.
   pub record IsWatchingWhile (keep : K) (number : ℕ) (before after : List TraceEntry) (last : K) : Type 0 where
     pub looks : List TraceEntry
     pub watch : IsWatch number looks

@@ -43,7 +43,8 @@ release_hold-requires-clause-counted g c =
     (found_by c.args.end c.entries.own.locals) (c.in-Some.tag, c.in-Some.mode) (ended_by c.args.end (found_by c.args.end c.end_next.new.self))
     c.in-Some.ensures.next c.entries.invariant.rest
 
--- With the next hold released the session is at rest with the entries left, and what is left to release leads on from there.
+-- With the next hold released the session is at rest with the entries left, and what is left to release leads
+-- on from there.
 pub entries-preserved : goal.entries-preserved
 entries-preserved g c = record {
   rest =

@@ -22,8 +22,8 @@ use Rattle.lock_model.specs.declared.machine.state.Machine.{Machine}
 use Rattle.lock_model.specs.Shows.{Shows, ShowsMarks}
 use Rattle.lock_model.proofs.Lemmas.Follows.Skipped.{skipped}
 
--- The machine has 64 sessions. No other one makes a lawful step, and no lawful step is on the lock, the seat, the slots or the
--- sleep word of another one.
+-- The machine has 64 sessions. No other one makes a lawful step, and no lawful step is on the lock, the seat,
+-- the slots or the sleep word of another one.
 
 -- only locks that there are have marks
 marked-within : (marks : List (List Bool)) (has : ℕ → ℕ → Bool) (s o : ℕ) → ShowsMarks marks usual_sessions has → has s o ≡ true → o < usual_sessions

@@ -161,7 +161,8 @@ module _ (m : Machine) (w : World) (safe : SafeWorld w) (shows : Shows m w) wher
             ∙ sym ((safe.but_slots.table.promise.one_place.on_object t).held s n) ∙ sym (and_not_false there _ (awaits_from s t n ∙ other))
       ]
 
-  -- The word of a partition's lock, and that of the lock of a session's fast-path slots, as the machine reads them.
+  -- The word of a partition's lock, and that of the lock of a session's fast-path slots, as the machine reads
+  -- them.
   pub partition_word_from : (i p : ℕ) (d : LockState) → i ≡ p → p < length m.words.partitions → ShowsLock (get_or m.words.partitions i d) (w.words.partition p)
   partition_word_from i p d place in_words =
       subst (λ its. ShowsLock its (w.words.partition p))

@@ -15,7 +15,8 @@ use Rattle.lock_world.specs.AccountLaw.{MayLockListBy, MayJoinListBy, MayLeaveLi
 use Rattle.lock_world.specs.SafeWorld.{SafeWorld}
 use Rattle.lock_world.proofs.Lemmas.Accounts.Parts.{account-by}
 
--- What a session knows of wait lists is this part by part; a step on them changes nothing else of its account.
+-- What a session knows of wait lists is this part by part; a step on them changes nothing else of its
+-- account.
 with_lists-account :
     (w : World) (partition fast : ℕ → ℕ) (after : Sleepers) (has : ℕ → Option ℕ) (s : ℕ) (lists : ListAccount) → list_in_hand (has s) after.list ≡ lists.in_hand
     → after.stands s ≡ lists.stands → after.off s ≡ lists.off → account (with_lists w partition fast after has) s ≡ record (account w s) { lists = lists }

@@ -17,7 +17,8 @@ use Rattle.lock_world.proofs.Lemmas.Waits.Steps.{queued-waits}
 use Rattle.lock_world.proofs.Lemmas.SafeWorld.Tabled.{MayMove-tabled}
 use Rattle.lock_world.proofs.Lemmas.Accounts.Lawful.{hand-known, move-lawful}
 
--- Whom a move grants waits and is another than who makes it, so marking is lawful where the account of that one says so.
+-- Whom a move grants waits and is another than who makes it, so marking is lawful where the account of that
+-- one says so.
 
 module _ (w : World) (safe : SafeWorld w) (s p : ℕ) (done : Move) (granted : List Wait) (content : Content) (may : MayMove w s p done granted content) where
   abbrev in_table : MayMove (tabled w) s p done granted content

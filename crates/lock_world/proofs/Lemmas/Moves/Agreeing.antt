@@ -87,8 +87,8 @@ granted_as b st = if b then WasGranted else st
 abbrev pub with_granted : (ℕ → Stage) → List Wait → ℕ → Stage
 with_granted stage granted k = if waits_there granted k then WasGranted else stage k
 
--- What is so of a session after the wakeup: what it still has in the queue, what it was granted, and that nothing changed
--- for it on other objects.
+-- What is so of a session after the wakeup: what it still has in the queue, what it was granted, and that
+-- nothing changed for it on other objects.
 record IsWoken (k : ℕ) (own : Option OwnWait) (st after : Stage) (t : Tag) (granted left : List Wait) : Type 0 where
   pub in_queue : of_session k left ≡ queued_by k own after t
   pub pending : (m : Mode) → is_pending own after t m ≡ (is_pending own st t m || awaits_mode granted k m)
@@ -270,7 +270,8 @@ AreInOnePlace-change now own own_after awaited awaited_after stage stage_after p
                 (λ _. on_another o other (now (partition_of o)) (one.on_object o) (now (partition_of o)) (λ s m. refl) refl)
           ]
 
--- Holds are in one place after a change that keeps content and accounts in agreement on the object, and a wakeup of its queue.
+-- Holds are in one place after a change that keeps content and accounts in agreement on the object, and a
+-- wakeup of its queue.
 pub AreInOnePlace-wakes : (now : ℕ → Content) (own own_after : Holds) (awaited : ℕ → Option OwnWait) (stage stage_between : ℕ → Stage) (p : ℕ) (t : Tag) (between after : Content) (granted : List Wait) →
     AreInOnePlace now own awaited stage → partition_of t ≡ p → ChangesOnly (now p) between t → SameElsewhere own own_after awaited awaited stage stage_between t →
     AgreesOn between t own_after awaited stage_between → NotOwn own_after awaited → Wakes between t granted after →

@@ -22,8 +22,8 @@ use Rattle.lock_table.proofs.Lemmas.QueuesOf.{of_session, one-there, there-some,
 use Rattle.lock_world.proofs.Lemmas.Moves.Agreeing.{or-false, AreInOnePlace-same, AreInOnePlace-ended, pending-stage, queued-stage}
 use Rattle.lock_world.proofs.Lemmas.Moves.Each.{LeavesSafe, LeavesSafe-kept, LeavesSafe-granted, LeavesSafe-released, LeavesSafe-woken, LeavesSafe-left, LeavesSafe-joined, stood}
 
--- What a move leaves of the facts on contents and accounts, over the contents, the sessions' own holds, the waits and their stages
--- as plain functions.
+-- What a move leaves of the facts on contents and accounts, over the contents, the sessions' own holds, the
+-- waits and their stages as plain functions.
 
 -- the waits after a move: a join records one
 abbrev pub awaited_after : Content → (ℕ → Option OwnWait) → ℕ → Move → ℕ → Option OwnWait
@@ -52,7 +52,8 @@ pub record Moved (now : ℕ → Content) (own : Holds) (awaited : ℕ → Option
   pub one_place : AreInOnePlace (set_at now p content) (own_after own s done) (awaited_after (now p) awaited s done) (stage_after stage s done granted)
   pub none_free : NobodyIsFree (set_at now p content)
 
--- A session that was granted stood in the queue, with a wait of its own account, on an object of the partition.
+-- A session that was granted stood in the queue, with a wait of its own account, on an object of the
+-- partition.
 pub record StoodInQueue (awaited : ℕ → Option OwnWait) (stage : ℕ → Stage) (p k : ℕ) : Type 0 where
   pub wait : OwnWait
   pub is_wait : awaited k ≡ Some wait

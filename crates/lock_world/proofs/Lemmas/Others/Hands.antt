@@ -13,7 +13,8 @@ pub another's : (hand : Option Hand) (now : Content) (s k : ℕ) → is_hand_of 
 another's None now s k holds other = refl
 another's (Some h) now s k holds other = cond-false (h.holder == k) _ None (ne_eqb h.holder k (λ same. other (sym same ∙ eqb-true h.holder s holds)))
 
--- What a session has in hand is as it was where one partition changed that is not in its hand, neither before nor after.
+-- What a session has in hand is as it was where one partition changed that is not in its hand, neither before
+-- nor after.
 pub own_hand-set :
     (hand : ℕ → Option Hand) (now now' : ℕ → Content) (p : ℕ) (new : Option Hand) (k : ℕ) → ((q : ℕ) → q ≢ p → now' q ≡ now q)
     → own_hand (hand p) (now p) k ≡ None → own_hand new (now' p) k ≡ None → own_hands (set_at hand p new) now' k ≡ own_hands hand now k

@@ -8,7 +8,8 @@ use Rattle.lock_world.specs.Happens.{Happens}
 use Rattle.lock_table.proofs.Lemmas.Put.{set_at-here, set_at-else}
 use Rattle.lock_world.proofs.Lemmas.LawfulSteps.{LawfulStep, world_after, asking_to_cancel, setting_waiting, marking_first, marking_next, clearing_seen, clearing_in_hand, leaving_queue, after_each}
 
--- What becomes of another session's wait word: it stays, or it is asked to cancel, or its wait is marked granted.
+-- What becomes of another session's wait word: it stays, or it is asked to cancel, or its wait is marked
+-- granted.
 abbrev pub IsLeftOrMarked : ℕ → ℕ → Type 0
 IsLeftOrMarked before after = (after ≡ before) ⊎ ((after ≡ asked_word before) ⊎ ((wait_state before ≡ 1) × (after ≡ granted_word before)))
 

@@ -25,7 +25,8 @@ none-else live has s lock b alive none k q dead =
       | inr other ↦ row-else has s lock b k q other ∙ none k q dead
     ]
 
--- Another word of a partition, which a live session shares or not, is safe where it shows who holds it and who shares it.
+-- Another word of a partition, which a live session shares or not, is safe where it shows who holds it and
+-- who shares it.
 shared_partition-safe :
     (w : World) (s p n : ℕ) (b : Bool) → SafeButSlots w → w.numbers.live s ≡ true
     → ShowsHolders w.numbers.limit n (λ k. w.sessions.holds_partition k p) (set_at (λ k. w.sessions.shares_partition k p) s b) → SafeButSlots (with_shared_partition w s p n b)
@@ -41,7 +42,8 @@ shared_partition-safe w s p n b safe live shows = record {
   traces = safe.traces;
 }
 
--- Another word of the lock of a session's fast-path slots, which a live session shares or not, is safe likewise.
+-- Another word of the lock of a session's fast-path slots, which a live session shares or not, is safe
+-- likewise.
 shared_fast-safe :
     (w : World) (s o n : ℕ) (b : Bool) (remembered : ℕ → ℕ → ℕ) → SafeButSlots w → w.numbers.live s ≡ true
     → ShowsHolders w.numbers.limit n (λ k. w.sessions.holds_fast k o) (set_at (λ k. w.sessions.shares_fast k o) s b) → SafeButSlots (with_shared_fast w s o n b remembered)

@@ -8,7 +8,8 @@ use Rattle.lock_world.proofs.Lemmas.Words.Holders.{ShowsHolders-taken, ShowsHold
 use Rattle.lock_world.proofs.Lemmas.Table.Sharing.{with_fast_words-table}
 use Rattle.lock_world.proofs.Lemmas.Safe.Sharing.{none-else}
 
--- Another word of the lock of a session's fast-path slots, which a live session holds or not, is safe where it shows who holds it.
+-- Another word of the lock of a session's fast-path slots, which a live session holds or not, is safe where
+-- it shows who holds it.
 held_fast-safe :
     (w : World) (s o n : ℕ) (b : Bool) (zero : ℕ → Option ℕ) (remembered : ℕ → ℕ → ℕ) → SafeButSlots w → w.numbers.live s ≡ true
     → ShowsHolders w.numbers.limit n (set_at (λ k. w.sessions.holds_fast k o) s b) (λ k. w.sessions.shares_fast k o) → SafeButSlots (with_held_fast w s o n b zero remembered)

@@ -23,8 +23,8 @@ use Rattle.lock_world.proofs.Lemmas.Table.Waits.{recording-holders}
 use Rattle.lock_world.proofs.Lemmas.Safe.Partitions.{holding-hand}
 use Rattle.lock_world.proofs.Lemmas.Traces.{TracesTell-record, recorded-adopted}
 
--- An adopt, as partitions know it: a session in whose hand the partition is adds a hold of another, or of its own, to the
--- content, and so to that session's own holds. It conflicts with no hold of others.
+-- An adopt, as partitions know it: a session in whose hand the partition is adds a hold of another, or of its
+-- own, to the content, and so to that session's own holds. It conflicts with no hold of others.
 
 -- No leave is recorded where an adopt may be.
 MayAdopt-no_leave : (recorded : Option Move) (owner place : ℕ) (t : Tag) → MayAdopt recorded owner place → is_leave_of recorded t ≡ false

@@ -4,8 +4,8 @@ use Rattle.lock_world.specs.WaitLists.{ListsAreSafe}
 use Rattle.lock_world.specs.SafeWorld.{SafeWorld, ZeroIsAPermission, SlotsAreRemembered, tabled}
 use Rattle.lock_world.specs.Happens.Lists.{sleepers}
 
--- Most steps leave slots, own holds, waits and what is counted as they are: then only what is safe of partitions, of wait lists, of
--- counters read as 0 and of remembered slots has to be shown.
+-- Most steps leave slots, own holds, waits and what is counted as they are: then only what is safe of
+-- partitions, of wait lists, of counters read as 0 and of remembered slots has to be shown.
 
 -- the World v, with the slots, the own holds and waits, and all that is counted as in w
 abbrev pub beside : World → World → World

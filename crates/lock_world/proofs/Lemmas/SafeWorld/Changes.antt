@@ -17,7 +17,8 @@ use Rattle.lock_world.proofs.Lemmas.Table.Beside.{same-table}
 
 -- What steps on slots and counters change, and what stays.
 
--- A World of which slots, databases and counters, what sessions know and remember of these, and traces alone have changed.
+-- A World of which slots, databases and counters, what sessions know and remember of these, and traces alone
+-- have changed.
 abbrev pub with_fast_path :
     World → (ℕ → ℕ) → (ℕ → ℕ → ℕ) → (ℕ → ℕ) → (ℕ → List Counted) → (ℕ → Option ℕ) → (ℕ → ℕ → ℕ) → (ℕ → List TraceEntry)
     → World
@@ -57,7 +58,8 @@ slots_of-set database slot s after t m b its = λ i k. at k i where
             ∙ sym (set_at-else (slots_of database slot) s (put tag_eq (slots_of database slot s) t (put mode_eq (slots_of database slot s t) m b)) k other)
       ]
 
--- A hold set or cleared both in the slots and among its session's own holds: in the table nothing has changed, where it was not there.
+-- A hold set or cleared both in the slots and among its session's own holds: in the table nothing has
+-- changed, where it was not there.
 pub own_but-both :
     (own slots : Holds) (s : ℕ) (t : Tag) (m : Mode) (b : Bool) → own_but own slots s t m ≡ false
     → own_but (set_hold own s t m b) (set_hold slots s t m b) ≡ own_but own slots

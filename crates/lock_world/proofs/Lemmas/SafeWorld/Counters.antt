@@ -128,8 +128,8 @@ uncounting-safe_world w s t m safe may = record {
   not_awaited : (o : Tag) (n : Mode) → is_for (w.sessions.awaited s) o n ≡ true → (o ≡ t) × (n ≡ m) → ⊥
   not_awaited o n awaits it = both_ways (is_for (w.sessions.awaited s) o n) ((λ i. is_for (w.sessions.awaited s) (it.0 i) (it.1 i)) ∙ may.not_awaited) awaits
 
--- Going past a session that has no slot on the object is safe: no counter that it has read as 0 is a permission still, since its
--- own lock was not its own to hold.
+-- Going past a session that has no slot on the object is safe: no counter that it has read as 0 is a
+-- permission still, since its own lock was not its own to hold.
 pub passing-safe_world : (w : World) (s k : ℕ) (t : Tag) (m : Mode) → SafeWorld w → MayPass w s k t m → SafeWorld (after_passing w s k t m)
 passing-safe_world w s k t m safe may = record {
   but_slots = with_fast_path-safe (tabled put) w.words.database w.words.slot w.words.strong _ put.sessions.zero w.sessions.remembered w.sessions.trace whole.but_slots whole.but_slots.traces;

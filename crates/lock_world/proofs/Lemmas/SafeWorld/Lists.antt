@@ -55,7 +55,8 @@ module _ (w : World) (s : ℕ) (safe : SafeWorld w) where
   abbrev words : ℕ → ℕ
   words = lock_word w.words.partition w.words.fast
 
-  -- The words are those of before but for one lock's, of which the session takes the list in hand, or puts it.
+  -- The words are those of before but for one lock's, of which the session takes the list in hand, or puts
+  -- it.
   locked :
       (lock n : ℕ) (partition fast : ℕ → ℕ) → words lock ≡ n → lock_word partition fast ≡ set_at words lock (list_locked_word n) → MayLockList w.numbers n w.sessions.has_list s
       → ListsAreSafe partition fast (sleepers w) (set_at w.sessions.has_list s (Some lock)) w.numbers.live

@@ -24,7 +24,8 @@ shows-weak word relation mode shown =
           absurd (false≢true (sym (ap (λ b. nat_eq b 1) none) ∙ (and_parts (has_mode word mode) (nat_eq (relation_in word) relation) shown).0))
     ]
 
--- What a slot shows of a relation is a hold on that relation in the database of the slot's session, which it has.
+-- What a slot shows of a relation is a hold on that relation in the database of the slot's session, which it
+-- has.
 pub shown-held :
     (database : ℕ) (slot : ℕ → ℕ) (place relation : ℕ) (mode : Mode) → InUseHasDatabase database slot → place < slot_count
     → shows (slot place) relation mode ≡ true → slot_holds database slot (Relation database relation) mode ≡ true

@@ -1,8 +1,8 @@
 use Rattle.lock_world.specs.World.{World}
 use Rattle.lock_world.specs.Safe.{TableIsSafe, NumbersAreInOrder, SpentHaveNothing, WordsShowHolders}
 
--- Of the locks of sessions' fast-path slots, of the slots and what is remembered of them, of counters, of whom a session took off a
--- list and of traces no fact of partitions, waits and numbers speaks.
+-- Of the locks of sessions' fast-path slots, of the slots and what is remembered of them, of counters, of
+-- whom a session took off a list and of traces no fact of partitions, waits and numbers speaks.
 
 -- the World v, with the contents, the own holds, the waits and the holders of partitions of w
 abbrev pub beside : World → World → World

@@ -174,7 +174,8 @@ over-no_leave o p (Release t m) wait over is here = refl
 over-no_leave o p (Leave t) wait over is here = absurd (over wait is here)
 over-no_leave o p (Adopt k i) wait over is here = refl
 
--- Putting a partition with a move recorded is safe: nobody is unmarked, and no wait of it has left and is not over.
+-- Putting a partition with a move recorded is safe: nobody is unmarked, and no wait of it has left and is not
+-- over.
 pub putting_recorded-table : (w : World) (s p : ℕ) (done : Move) → TableIsSafe w → MayPutRecorded w s p done → TableIsSafe (after_putting_recorded w s p)
 putting_recorded-table w s p done safe may = with_put-table w s p (set_at w.contents.now p (w.contents.now p)) w.sessions.own _ safe may.steps.live may.holding (λ _ _ _ _. refl)
     (subst (λ now. WaitsAreSafe now w.sessions.own w.sessions.awaited w.sessions.seen w.words.wait (set_at w.contents.hand p None)) (sym (set_at-same w.contents.now p (w.contents.now p) refl))

@@ -16,8 +16,8 @@ pub with_partition_words-table : (w : World) (word : ℕ → ℕ) (shares : ℕ 
     → TableIsSafe (with_partition_words w word shares)
 with_partition_words-table w word shares safe words = beside-table w (with_partition_words w word shares) safe words safe.promise.spent safe.carriers.numbers
 
--- A World with other words of sessions' fast-path locks, other counters read as 0 and other slots as remembered: no
--- fact of partitions, waits and numbers speaks of them.
+-- A World with other words of sessions' fast-path locks, other counters read as 0 and other slots as
+-- remembered: no fact of partitions, waits and numbers speaks of them.
 abbrev pub with_fast_words :
     World → (ℕ → ℕ) → (ℕ → ℕ → Bool) → (ℕ → ℕ → Bool) → (ℕ → Option ℕ) → (ℕ → ℕ → ℕ) → World
 with_fast_words w word holds shares zero remembered = record {

@@ -158,7 +158,8 @@ clearing_seen-table w s wait safe may = clearing_granted-table w s wait safe may
       two : wait_state (w.words.wait s) ≡ 2
       two = safe.promise.wait_words.seen_is_shown s may.seen
 
--- Clearing it with the partition in hand is safe, where the wait is not in the queue: it was granted, or it has left.
+-- Clearing it with the partition in hand is safe, where the wait is not in the queue: it was granted, or it
+-- has left.
 pub clearing_in_hand-table : (w : World) (s : ℕ) (wait : OwnWait) → TableIsSafe w → MayClearInHand w s wait → TableIsSafe (after_clearing w s wait)
 clearing_in_hand-table w s wait safe may =
     elim (gone-stage w.contents.now w.sessions.own w.sessions.awaited (stages w) p s safe.promise.one_place wait may.is_wait may.gone) [

@@ -35,7 +35,8 @@ with_waits w now own awaited seen word hand trace = record {
   numbers = w.numbers;
 }
 
--- A World with these waits is safe where the waits are, where numbers that are not live have nothing, and where each hand is whose it was.
+-- A World with these waits is safe where the waits are, where numbers that are not live have nothing, and
+-- where each hand is whose it was.
 pub with_waits-table :
     (w : World) (now : ℕ → Content) (own : Holds) (awaited : ℕ → Option OwnWait) (seen : ℕ → Bool) (word : ℕ → ℕ) (hand : ℕ → Option Hand) (trace : ℕ → List TraceEntry)
     → TableIsSafe w → WaitsAreSafe now own awaited seen word hand → SpentHaveNothing w.numbers.live own awaited w.sessions.holds_partition

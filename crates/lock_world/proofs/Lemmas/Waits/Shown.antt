@@ -11,7 +11,8 @@ use Rattle.lock_world.specs.Happens.Waits.{unmarked_but}
 use Rattle.lock_world.specs.Safe.{is_hand_of, stage_of, NoConflictingHolds, AreInOnePlace, NobodyIsFree, WaitWordsShowWaits, UnmarkedByItsMove}
 use Rattle.lock_table.proofs.Lemmas.Put.{set_at-here, set_at-else}
 
--- What is safe of contents, waits, wait words and hands, over plain functions, and what each kind of step leaves of it.
+-- What is safe of contents, waits, wait words and hands, over plain functions, and what each kind of step
+-- leaves of it.
 
 -- The word shows its session's wait.
 pub record ShowsWait (n : ℕ) (o : Option OwnWait) (seen : Bool) : Type 0 where

@@ -31,7 +31,8 @@ hand-no_leave hand k t not_unmarked no_leave = hand-queued hand k t not_unmarked
 pub hand-unrecorded : (hand : Option Hand) (k : ℕ) (t : Tag) → is_unmarked hand k ≡ false → recorded_in hand ≡ None → stage_by_hand hand k t ≡ InQueue
 hand-unrecorded hand k t not_unmarked unrecorded = hand-no_leave hand k t not_unmarked (ap (λ move. is_leave_of move t) unrecorded)
 
--- Two hands of one session, alike in whether it is unmarked there and whether its leave is recorded, tell the same.
+-- Two hands of one session, alike in whether it is unmarked there and whether its leave is recorded, tell the
+-- same.
 pub hand-same : (hand hand' : Option Hand) (k : ℕ) (t : Tag) → is_unmarked hand k ≡ is_unmarked hand' k → is_hand_of hand k ≡ is_hand_of hand' k
     → is_leave_of (recorded_in hand) t ≡ is_leave_of (recorded_in hand') t → stage_by_hand hand k t ≡ stage_by_hand hand' k t
 hand-same hand hand' k t owing its leave i =

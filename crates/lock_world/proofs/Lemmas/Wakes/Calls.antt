@@ -61,7 +61,7 @@ module _ (ParksOn : ℕ → Type 0) (word : ℕ → ℕ) (c : Calls) (each : Eac
     | inl same ↦ elim (cases_eq (word k) m) [
       | inl shows ↦ inl (ap word same ∙ shows)
       | inr changed ↦ inr (inl (set_at-here c.called k (c.called k || not (shows_looked (c.looked k) (word k))) j same
-        ∙ or_right (c.called k) (not (shows_looked (c.looked k) (word k)))
+          ∙ or_right (c.called k) (not (shows_looked (c.looked k) (word k)))
           (ap not (ap (λ l. shows_looked l (word k)) (ap c.looked (sym same) ∙ looked) ∙ ne_eqb (word k) m changed))))
     ]
     | inr other ↦ elim (each j m looked parks) [

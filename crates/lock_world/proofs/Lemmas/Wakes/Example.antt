@@ -16,7 +16,8 @@ use Rattle.lock_world.specs.Wakes.{Beside, nothing_beside, Turn, happened, saw_h
 use Rattle.lock_world.proofs.Lemmas.Wakes.Readings.{none-some, some-same}
 use Rattle.lock_world.proofs.Lemmas.Wakes.Runs.{none-held}
 
--- A run in which session 1 sleeps for the lock of the slots of session 0, which has it, and is woken as session 0 puts it.
+-- A run in which session 1 sleeps for the lock of the slots of session 0, which has it, and is woken as
+-- session 0 puts it.
 
 abbrev made : ℕ → Step → Turn
 made session step = happened (record { session = session; step = step })
@@ -31,7 +32,8 @@ both_live = after_issuing first_live 1
 abbrev taken : World
 taken = after_taking_fast both_live 0 0
 
--- Session 1 locks the list, sets has-waiters, joins, and unlocks it; it sees the lock held, and loads its sleep word.
+-- Session 1 locks the list, sets has-waiters, joins, and unlocks it; it sees the lock held, and loads its
+-- sleep word.
 abbrev list_locked : World
 list_locked = after_locking_fast_list taken 1 0
 

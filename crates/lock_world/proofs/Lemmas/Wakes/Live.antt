@@ -25,7 +25,8 @@ use Rattle.lock_world.proofs.Lemmas.Others.Events.{event-others}
 use Rattle.lock_world.proofs.Lemmas.Wakes.Readings.{none-some, none-kept}
 use Rattle.lock_world.proofs.Lemmas.Wakes.Steppers.{IsNoSeat, step-makes, makes-some}
 
--- Only a session that makes steps has a lightweight lock, something to do for those who wait, or somebody to call.
+-- Only a session that makes steps has a lightweight lock, something to do for those who wait, or somebody to
+-- call.
 
 -- What one session has to do stays where another makes a step.
 abbrev pub Alone : Beside → Beside → ℕ → Type 0

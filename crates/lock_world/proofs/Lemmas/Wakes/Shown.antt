@@ -192,7 +192,8 @@ module _ (w : World) (x : Duties) (s lock n : ℕ) (nobody : Nobody w x) (is : l
         ok b (inl set) = inl (λ was. subst (λ c. IsReleaseOk (list_unlocked_word n waiters c)) (sym set) (list_unlocked_word-release_ok n waiters ∙ ap (λ f. f / 2 ^ 29 % 2) (sym is) ∙ was))
         ok b (inr off) = inr off
 
-  -- Setting has-waiters, and release-ok: by a session that was told, by one that has won and has the list in hand, and by any other.
+  -- Setting has-waiters, and release-ok: by a session that was told, by one that has won and has the list in
+  -- hand, and by any other.
   pub showed_waiters :
       Shows v (word_set (has_waiters_word n)) (held_in w) (shared_in w) (sleepers w) w.sessions.has_list → w.sessions.has_list s ≡ Some lock
       → Nobody v (record x { flagged = set_at x.flagged s true })

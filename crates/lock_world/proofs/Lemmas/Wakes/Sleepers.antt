@@ -21,7 +21,8 @@ sleeper-owed w s lock safe order asleep = elim (cases_eq (w.sleepers.sleep s) 1)
   two : (n : ℕ) → n < 3 → n ≢ 0 → n ≢ 1 → n ≡ 2
   two n few not_none not_one = omega (arith, few, not_none, not_one)
 
--- Where all who are involved sleep, each sleeper's lock is had by one that sleeps for a later lock, and 17 locks are the longest chain.
+-- Where all who are involved sleep, each sleeper's lock is had by one that sleeps for a later lock, and 17
+-- locks are the longest chain.
 module _ (w : Waking) (safe : NobodyIsForgotten w) (order : SleepersAreInOrder w.sleepers) (kept : OrderIsKept w)
     (all : (j : ℕ) → IsInvolved w j → (l : ℕ) × IsAsleep w j l) where
   in_its_list : (j l : ℕ) → IsAsleep w j l → stands_in j (w.sleepers.list l) ≡ true

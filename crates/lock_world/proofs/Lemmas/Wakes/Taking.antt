@@ -9,7 +9,8 @@ use Rattle.lock_world.specs.Wakes.Waking.{Waking, HasLock, IsHeld, HasOkToSet, h
 use Rattle.lock_world.specs.Wakes.Events.{WakeFlagsStay, lock_taken, lock_put, list_locked, list_seen_locked, word_flagged, has_waiters_set, held_seen}
 use Rattle.lock_world.proofs.Lemmas.Wakes.Readings.{one-lock, none_or-same, bit-kept, some-kept, owes-by, ok-same}
 
--- Steps that leave the lists, and what is owed of release-ok: nobody is forgotten by them where each list is owed after them.
+-- Steps that leave the lists, and what is owed of release-ok: nobody is forgotten by them where each list is
+-- owed after them.
 
 pub nobody-by :
     (w v : Waking) → NobodyIsForgotten w → v.sleepers ≡ w.sleepers → v.owes_release_ok ≡ w.owes_release_ok

@@ -31,7 +31,8 @@ use Rattle.shared_rule.specs.Layout.{index_of_word, content_shelf_of, list_shelf
 use Rattle.shared_rule.specs.LwLocks.{word_of_lock, lock_number, LockExists}
 use Rattle.shared_rule.specs.Ruled.{IsHomeUnlessInHand, ContentsAreHome, IsInNoHand, ListIsAtHome, ListsAreHome}
 
--- Steps on wait lists: locking one and unlocking it, joining and leaving, taking off and telling, and the flags.
+-- Steps on wait lists: locking one and unlocking it, joining and leaving, taking off and telling, and the
+-- flags.
 
 -- Where the list is locked already, setting its bit changes nothing.
 pub or-locked : (n : ℕ) → n / 2 ^ 28 % 2 ≢ 0 → bit_or n (2 ^ 28) ≡ n

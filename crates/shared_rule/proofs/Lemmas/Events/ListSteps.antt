@@ -45,7 +45,8 @@ use Rattle.shared_rule.proofs.Lemmas.Frame.{Stepper, IsNoted}
 use Rattle.shared_rule.proofs.Lemmas.Events.Words.{IsAlwaysLawful}
 use Rattle.shared_rule.proofs.Lemmas.Events.ListShelves.{known-list}
 
--- A step by which a list comes in the session's hand or goes, as it is noted; contents stay, and who stands where.
+-- A step by which a list comes in the session's hand or goes, as it is noted; contents stay, and who stands
+-- where.
 pub record ChangesHand {T : Type 0} (content : T → Content) (groups : ℕ) (w : World) (number : ℕ) (a : Account) (todo : Todo) (flagged : Bool) (mark : Mark T) (next : Words) (has : Option ℕ) : Type 0 where
   pub noted : IsNoted content groups w number a todo flagged mark next
   pub contents : noted.after.contents ≡ w.contents

@@ -55,7 +55,8 @@ use Rattle.shared_rule.proofs.Lemmas.Frame.{Stepper, IsNoted, ruled-steps, ruled
 use Rattle.shared_rule.proofs.Lemmas.Events.Words.{IsAlwaysLawful, KeepsLists, lists-kept, rule-after, nothing-changes}
 use Rattle.shared_rule.proofs.Lemmas.Events.Loads.{loading_fast-lawful}
 
--- Taking the lock of a session's fast-path slots, and putting it, with that session passed or not; and sharing it.
+-- Taking the lock of a session's fast-path slots, and putting it, with that session passed or not; and
+-- sharing it.
 
 -- What the fetch-and-subtract of an exclusive holder makes of a word.
 pub put_word-wraps : (n : ℕ) → n < 2 ^ 64 → IsHeldExclusively n → put_word n ≡ (n + (2 ^ 64 - 2 ^ 24)) % 2 ^ 64
@@ -153,8 +154,8 @@ module _ {T : Type 0} (content : T → Content) (begun : T → Option Request) (
   abbrev at_word : ℕ
   at_word = index_of_word sizes.sessions (Fast owner)
 
-  -- The exchange takes it, or shares it, where it finds the number that it expects, and makes this mark. A lost one is a
-  -- step that keeps the rule.
+  -- The exchange takes it, or shares it, where it finds the number that it expects, and makes this mark. A
+  -- lost one is a step that keeps the rule.
   sees_slots_or :
       (mark : ℕ → ℕ → List ℕ → Mark T) (lost : ℕ → View T → View T) (old new : ℕ)
       → ((w : World) → Stepper sizes w x.number (told content x.number x.marks) → w.words.fast owner ≡ old

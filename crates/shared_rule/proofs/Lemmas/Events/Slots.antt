@@ -34,7 +34,8 @@ use Rattle.shared_rule.specs.Seats.{HoldsNothing}
 use Rattle.shared_rule.proofs.Lemmas.Events.Words.{IsAlwaysLawful}
 use Rattle.shared_rule.proofs.Lemmas.Events.Waits.{home-recorded}
 
--- Setting and clearing a mode in a slot of its own, moving one from a slot to the table, and storing its own database.
+-- Setting and clearing a mode in a slot of its own, moving one from a slot to the table, and storing its own
+-- database.
 
 -- A slot that is set is none beyond the others.
 set-none_beyond : (groups : ℕ) (words : Words) (session slot n : ℕ) → slot < group_size * groups → NoneBeyondSlots groups words

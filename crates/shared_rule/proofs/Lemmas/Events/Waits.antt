@@ -226,7 +226,8 @@ module _ {T : Type 0} (content : T → Content) (sizes : TableSizes) (x : Histor
 
 -- Clearing its own wait word.
 
--- Whether the wait was granted, as the session can tell, is so in the World: it has seen it, or has the content in hand.
+-- Whether the wait was granted, as the session can tell, is so in the World: it has seen it, or has the
+-- content in hand.
 granted-known : (w : World) (s : ℕ) (wait : OwnWait) → MayClearBy s (account w s) wait
     → is_granted s (account w s) wait ≡ (w.sessions.seen s || (w.contents.now (partition_of wait.tag)).holds s wait.tag wait.mode)
 granted-known w s wait (inl seen) =

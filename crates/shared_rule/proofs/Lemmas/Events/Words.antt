@@ -34,7 +34,8 @@ use Rattle.shared_rule.proofs.Lemmas.Shown.{words-set}
 use Rattle.shared_rule.specs.Todos.{todo_told_by, flagged_told_by}
 use Rattle.shared_rule.proofs.Lemmas.Frame.{Stepper, IsNoted, IsSeen, ruled-steps, ruled-noted, ruled-looked}
 
--- A step that only leaves a mark is allowed where in each World it is lawful and makes that of the account, and no content comes or goes.
+-- A step that only leaves a mark is allowed where in each World it is lawful and makes that of the account,
+-- and no content comes or goes.
 
 -- Whatever is at home after a step was at home before it, with the same content.
 abbrev pub KeepsHome : Contents → Contents → Type 0

@@ -31,7 +31,8 @@ use Rattle.lock_model.proofs.Lemmas.Shows.Kept.{table_shown}
 
 -- Marking the wait of another session granted.
 
--- From this World, the marking leads on to one that the machine shows, or it isn't lawful and the machine shows the same.
+-- From this World, the marking leads on to one that the machine shows, or it isn't lawful and the machine
+-- shows the same.
 abbrev pub Marks : World → ℕ → ℕ → ℕ → Move → Machine → Type 0
 Marks w s k p done n = (v : World) × (HappensMarkingIn w s k p done v ⊎ (((u : World) × HappensMarkingIn w s k p done u → ⊥) × (v ≡ w))) × Shows n v
 

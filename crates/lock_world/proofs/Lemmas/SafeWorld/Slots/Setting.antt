@@ -33,7 +33,8 @@ eligible-not_strong database (Relation d r) m eligible strong =
 eligible-not_strong database (Object s d c o) m eligible strong = false≢true strong
 eligible-not_strong database (Advisory s d k l) m eligible strong = false≢true strong
 
--- Setting a mode in one of one's own slots is safe: nobody who has counted an object of its index is past the session.
+-- Setting a mode in one of one's own slots is safe: nobody who has counted an object of its index is past the
+-- session.
 module _ (w : World) (s i : ℕ) (t : Tag) (m : Mode) (safe : SafeWorld w) (may : MaySetSlot w s i t m) where
   abbrev own : Holds
   own = w.sessions.own
