@@ -68,3 +68,14 @@ module _
   script-written script json is_echoing old new (Err WriteFailed) is_form echo line heard = tt
   script-written script json is_echoing old new (Err NoMemory) is_form echo line heard = tt
   script-written script json is_echoing old new (Err GateHeld) is_form echo line heard = tt
+
+  -- What a run has written that began with this writer, and gives this one back.
+  pub run-written :
+      (script : Option (List ℕ)) (json is_echoing : Bool) (writer now : W) (old new : Output W) (ended : Result (Unit {0}) Fault) → old.writer ≡ writer →
+      now ≡ new.writer → IsFormOf json old.form → old.is_echoing ≡ is_echoing → old.line ≡ 0 →
+      IsScriptHeard seat view stack again database_of entries (Prints contents) script no_cast old ended new →
+      UnlessUnheard ended (WritesScript seat view stack again database_of entries script json is_echoing (contents writer) ended (contents now))
+  run-written script json is_echoing writer now old new ended was is is_form echo line heard =
+      subst (λ (it : W). UnlessUnheard ended (WritesScript seat view stack again database_of entries script json is_echoing (contents it) ended (contents now))) was
+      (subst (λ (it : W). UnlessUnheard ended (WritesScript seat view stack again database_of entries script json is_echoing (contents old.writer) ended (contents it)))
+      (sym is) (script-written script json is_echoing old new ended is_form echo line heard))
