@@ -1,5 +1,5 @@
 //! What ends the program before its work is done, and what it says of that.
-ghost use Rattle.std.specs.Prelude.{◌≡◌, IfSome, None, OnOk, false, string_bytes};
+ghost use Rattle.std.specs.Prelude.{◌≡◌, ◌≤◌, IfSome, None, OnOk, false, string_bytes};
 ghost use Rattle.std.specs.Io.KnownBytes.{Appends};
 ghost use Rattle.lock_script.specs.Fault.{status_of};
 ghost use Rattle.scenario_program.specs.Failures.{failure_text};
@@ -53,7 +53,11 @@ impl Failure {
         ensures { hints ≡ false → result.hint ≡ None }
     {
         match ended {
-            OrdersFault::Other(fault) => Failure::from(fault),
+            OrdersFault::Other(fault) => Failure {
+                fault,
+                told: None,
+                hint: None,
+            },
             OrdersFault::Session(refused) => Failure {
                 fault: Fault::BadLine {
                     line: refused.number,
@@ -83,7 +87,8 @@ fn where_wanted(hints: bool, hint: Option<String>) -> Option<String>
 
 /// Says by `errors` what ended the program, `failure`, and answers the status for that.
 pub fn fail<E: Write>(errors: &mut E, failure: &Failure) -> u8
-    ensures { result ≡ status_of failure.now.fault }
+    ensures status { result ≡ status_of failure.now.fault }
+    ensures at_most { result ≤ 4 }
 {
     // Where the errors can't be written, the status says it alone.
     let _ = write_failure(errors, failure);

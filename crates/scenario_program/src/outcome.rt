@@ -1,5 +1,6 @@
 //! What a run came to, which the program prints after it.
-ghost use Rattle.std.specs.Prelude.{◌≡◌, IfSome, string_bytes};
+ghost use Rattle.std.specs.Prelude.{◌≡◌, IfSome, string_bytes, true};
+ghost use Rattle.scenario_program.specs.Runs.{fails_for};
 
 use crate::hints::{Reader, hint_text};
 use crate::options::FailOn;
@@ -43,7 +44,9 @@ impl Outcome {
     }
 
     /// Whether something that the run fails for, by `fail_on`, has come in it.
-    pub fn fails(&self, fail_on: FailOn) -> bool {
+    pub fn fails(&self, fail_on: FailOn) -> bool
+        ensures { result ≡ true → fails_for fail_on ≡ true }
+    {
         (fail_on.waits && self.waited)
             || (fail_on.refused && self.was_refused)
             || (fail_on.stuck && self.waiting > 0)
@@ -141,9 +144,9 @@ pub struct Witness<'a, W: Write + Drop> {
 }
 
 impl<W: Write + Drop> Listener for Witness<'_, W> {
-    ghost use Rattle.scenario.specs.Printed.{Prints};
+    ghost use Rattle.scenario_program.specs.Runs.{PassesOn};
 
-    ghost hears = { λ old heard new. Prints W.contents old.output heard new.output };
+    ghost hears = { λ old heard new. PassesOn W.contents old heard new };
 
     fn begin_line(&mut self, number: u32, text: &str, more: bool) -> Result<(), Fault> {
         self.outcome
@@ -208,7 +211,7 @@ impl<W: Write + Drop> Listener for Witness<'_, W> {
     fn ended(&mut self, names: &Names, tells_left: bool) -> Result<(), Fault> {
         match &self.summary {
             Some(summary) => self.output.summarize(names, summary, !tells_left),
-            None => Ok(()),
+            None => self.output.ended(names, tells_left),
         }
     }
 

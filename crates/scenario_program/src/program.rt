@@ -1,22 +1,24 @@
 //! The program as a function of its words and its streams.
-ghost use Rattle.std.specs.Prelude.{◌≤◌, IfOk};
+ghost use Rattle.std.specs.Prelude.{◌≡◌, ◌≤◌, IfOk, None, false};
 ghost use Rattle.lock_hammer.specs.Sizes.{IsPlayable};
 ghost use Rattle.scenario.specs.Sizes.{IsForManager};
+ghost use Rattle.scenario_program.specs.Runs.{ArePassedOn, IsPlain, IsStatusOf, PrintsScript, RunsScript};
 
 use crate::arguments::{NoRun, Task, parse_arguments};
 use crate::failures::{Failure, fail};
 use crate::man::man_page;
 use crate::modes::print_modes;
-use crate::options::RunOptions;
+use crate::options::{FailOn, RunOptions};
 use crate::orders::OnManagers;
 use crate::outcome::{Outcome, Witness};
 use crate::shell::{ShellOptions, run_shell};
 use crate::timelines::draw_heard_script;
 use lock_hammer::{Hammer, OpenGate, ProgressLine, run_hammer, run_watched_hammer};
-use lock_manager::Config;
+use lock_manager::{Config, Desk, ManagerDesk, Part, Session};
 use lock_script::Fault;
 use scenario::{Output, Summary, run_in_turn};
 use script_orders::{OrdersLine, OrdersOptions, run_orders};
+use shared_rule::{Board, SeatBoard};
 use sql_report::run_sql;
 use std::alloc::Global;
 use std::io::{self, BufWriter, Read, Write};
@@ -96,7 +98,8 @@ fn run_words<
         Ok(Task::Man) => print_man(alloc, output)?,
         Ok(Task::Hammer(hammer)) => run_hammers(rt, hammer, output, errors)?,
         Ok(Task::Run(config, options)) => {
-            return run_input(rt, config, options, input, output, errors);
+            let (_, status) = run_input(rt, config, options, input, output, errors);
+            return Ok(status);
         }
         Ok(Task::Sql) => return Ok(run_statements(rt, words, input, output, errors)),
         Ok(Task::Shell(config, reuse)) => run_typed(rt, config, reuse, input, output)?,
@@ -114,7 +117,9 @@ fn run_words<
     Ok(SUCCESS)
 }
 
-/// Runs the script of `input` with these `options` against a lock manager of the size `config`, and answers the status of the program.
+/// Runs the script of `input` with these `options` against a lock manager of the size `config`, and answers
+/// the status of the program. Why the run ends early goes to `errors`. The output comes back, with all that
+/// was printed, unless writing or the memory failed.
 fn run_input<H: AllocGlobal + Wait, R: Read + Drop, W: Write + Drop, E: Write>(
     rt: &H,
     config: Config,
@@ -122,38 +127,145 @@ fn run_input<H: AllocGlobal + Wait, R: Read + Drop, W: Write + Drop, E: Write>(
     input: Source<R>,
     output: W,
     errors: &mut Errors<E>,
-) -> Result<u8, Failure>
+) -> (Option<W>, u8)
     requires { IsForManager config }
-    ensures { IfOk result (λ status. status ≤ 4) }
+    ensures ran { let B = ⟦<SeatBoard<'static, Part> as Board<Part>>⟧ in
+        let D = ⟦<ManagerDesk<'static> as Desk<Session<'static>>>⟧ in
+        IsPlain options → RunsScript B.seat B.view B.stack options.turns.reuse D.database_of D.entries W.contents
+        (R.remaining input.reader) options (W.contents output) result.0 result.1 }
+    ensures status { result.1 ≤ 4 }
 {
-    let alloc = rt.alloc();
-    let output = BufWriter::new(alloc, output).map_err(|_| Fault::NoMemory)?;
     if input.is_terminal {
         say_input_is_typed(errors.writer, TYPED_SCRIPT);
     }
-    let mut outcome = Outcome::new(alloc);
-    let ended = match options.style.graph {
-        Some(drawing) if drawing.is_of_all_lines() => {
-            draw_heard_script(rt, input.reader, output, config, options, &mut outcome)
-        }
-        _ => {
-            let witness = Witness {
-                output: Output::styled(alloc, output, options.style),
-                outcome: &mut outcome,
-                summary: options.summary.then(|| Summary::new(alloc)),
-            };
-            let (_, ended) = run_in_turn(rt, input.reader, witness, config, options.turns);
-            ended
-        }
-    };
+    let mut outcome = Outcome::new(rt.alloc());
+    let (output, ended) = play_input(rt, input.reader, output, config, options, &mut outcome);
+    let hints = options.hints || errors.is_terminal;
+    let status = status_after(errors.writer, ended, &outcome, options.fail_on, hints);
+    (output, status)
+}
+
+/// The status of a run that has `ended` so, and of which `outcome` has heard: 4 where something has come that
+/// `fail_on` names. Why it ended early is said by `errors`, with a hint only where `hints`.
+fn status_after<E: Write>(
+    errors: &mut E,
+    ended: Result<(), Fault>,
+    outcome: &Outcome,
+    fail_on: FailOn,
+    hints: bool,
+) -> u8
+    ensures of_end { IsStatusOf fail_on ended result }
+    ensures at_most { result ≤ 4 }
+{
     match ended {
-        Ok(()) if outcome.fails(options.fail_on) => Ok(FAILED),
-        Ok(()) => Ok(SUCCESS),
-        Err(fault) => {
-            let hints = options.hints || errors.is_terminal;
-            Err(Failure::of_run(fault, &outcome, hints))
-        }
+        Ok(()) if outcome.fails(fail_on) => FAILED,
+        Ok(()) => SUCCESS,
+        Err(fault) => fail(errors, &Failure::of_run(fault, outcome, hints)),
     }
+}
+
+/// Runs the script of `reader` with these `options`, and shows on `output` what they ask for: what each line
+/// is answered, or a picture of the whole script. What the run comes to is noted in `outcome`. The output
+/// comes back, with all that was printed, unless writing or the memory failed.
+fn play_input<H: AllocGlobal + Wait, R: Read + Drop, W: Write + Drop>(
+    rt: &H,
+    reader: R,
+    output: W,
+    config: Config,
+    options: RunOptions,
+    outcome: &mut Outcome,
+) -> (Option<W>, Result<(), Fault>)
+    requires { IsForManager config }
+    ensures played { let B = ⟦<SeatBoard<'static, Part> as Board<Part>>⟧ in
+        let D = ⟦<ManagerDesk<'static> as Desk<Session<'static>>>⟧ in
+        IsPlain options → PrintsScript B.seat B.view B.stack options.turns.reuse D.database_of D.entries W.contents
+        (R.remaining reader) options (W.contents output) result.1 result.0 }
+{
+    match options.style.graph {
+        Some(drawing) if drawing.is_of_all_lines() => {
+            draw_input(rt, reader, output, config, options, outcome)
+        }
+        _ => print_input(rt, reader, output, config, options, outcome),
+    }
+}
+
+/// Runs the script of `reader` with these `options`, and prints to `output` what each line is answered. What
+/// the run comes to is noted in `outcome`. The output comes back, with all that was printed, unless writing
+/// or the memory failed.
+fn print_input<H: AllocGlobal + Wait, R: Read + Drop, W: Write + Drop>(
+    rt: &H,
+    reader: R,
+    output: W,
+    config: Config,
+    options: RunOptions,
+    outcome: &mut Outcome,
+) -> (Option<W>, Result<(), Fault>)
+    requires { IsForManager config }
+    ensures printed { let B = ⟦<SeatBoard<'static, Part> as Board<Part>>⟧ in
+        let D = ⟦<ManagerDesk<'static> as Desk<Session<'static>>>⟧ in
+        IsPlain options → PrintsScript B.seat B.view B.stack options.turns.reuse D.database_of D.entries W.contents
+        (R.remaining reader) options (W.contents output) result.1 result.0 }
+{
+    let alloc = rt.alloc();
+    let Ok(buffered) = BufWriter::new(alloc, output) else {
+        return (None, Err(Fault::NoMemory));
+    };
+    let witness = Witness {
+        output: Output::styled(alloc, buffered, options.style),
+        outcome,
+        summary: summary_of(alloc, options),
+    };
+    let (witness, ended) = run_in_turn(rt, reader, witness, config, options.turns);
+    let Witness {
+        output,
+        outcome: _,
+        summary: _,
+    } = witness;
+    pass_on(output.into_writer(), ended)
+}
+
+/// The summary of a run with these `options`, in memory by `alloc`, if one is to be told at its end.
+fn summary_of(alloc: Global, options: RunOptions) -> Option<Summary>
+    ensures { options.summary ≡ false → result ≡ None }
+{
+    if options.summary {
+        Some(Summary::new(alloc))
+    } else {
+        None
+    }
+}
+
+/// Passes on to the writer behind `buffered` what is still in the buffer, and answers that writer and how the
+/// run has ended, which is `ended` where all could be written.
+fn pass_on<W: Write + Drop>(
+    buffered: BufWriter<W>,
+    ended: Result<(), Fault>,
+) -> (Option<W>, Result<(), Fault>)
+    ensures { ArePassedOn W.contents buffered ended result.0 result.1 }
+{
+    match buffered.into_inner() {
+        Ok(output) => (Some(output), ended),
+        Err(_) => (None, Err(Fault::WriteFailed)),
+    }
+}
+
+/// Runs the script of `reader` with these `options`, and writes a picture of the whole script to `output`.
+/// What the run comes to is noted in `outcome`.
+fn draw_input<H: AllocGlobal + Wait, R: Read + Drop, W: Write + Drop>(
+    rt: &H,
+    reader: R,
+    output: W,
+    config: Config,
+    options: RunOptions,
+    outcome: &mut Outcome,
+) -> (Option<W>, Result<(), Fault>)
+    requires { IsForManager config }
+{
+    let Ok(output) = BufWriter::new(rt.alloc(), output) else {
+        return (None, Err(Fault::NoMemory));
+    };
+    let ended = draw_heard_script(rt, reader, output, config, options, outcome);
+    (None, ended)
 }
 
 /// Has `hammer` run, and shows by `errors` to somebody at a terminal how far it is.
