@@ -18,8 +18,8 @@ use Rattle.shared_rule.specs.Boards.{Seated, Stack}
 
 -- What a run of the program comes to.
 
--- A run is asked for the answers of a script alone: no line is kept, no SQL spoken, no picture drawn, and nothing
--- told at its end.
+-- A run is asked for the answers of a script alone: no line is kept, no SQL spoken, no picture drawn, and
+-- nothing told at its end.
 pub record IsPlain (options : RunOptions) : Type 0 where
   pub keep : options.turns.keep ≡ false
   pub sql : options.turns.sql ≡ false
@@ -40,16 +40,16 @@ pub record PassesOn {W : Type 0} (contents : W → Option (List ℕ)) (old : Wit
   pub prints : old.summary ≡ None → Prints contents old.output heard new.output
   pub plain : old.summary ≡ None → new.summary ≡ None
 
--- The writer behind the buffer has all that the buffer was to write, and the run has ended as it did before; or
--- writing failed.
+-- The writer behind the buffer has all that the buffer was to write, and the run has ended as it did before;
+-- or writing failed.
 abbrev pub ArePassedOn : {W A : Type 0} → (W → Option (List ℕ)) → BufWriter W A → Result (Unit {0}) Fault → Option W → Result (Unit {0}) Fault → Type 0
 ArePassedOn contents buffered before output ended =
     ((ended ≡ before) × IsSomeAnd output (λ writer. Keeps (writer_contents contents buffered) (contents writer))) ⊎ (ended ≡ Err WriteFailed)
 
 module _
     {B : Type 0} (seat : B → Seated) (view : B → Account) (stack : B → Stack) (again : Bool) (database_of : SessionView B → ℕ) (entries : SessionView B → List Entry) where
-  -- The script was run from nothing, and the text of all that was heard of it stands behind what the writer had
-  -- before. The writer comes back, unless the output or the memory failed.
+  -- The script was run from nothing, and the text of all that was heard of it stands behind what the writer
+  -- had before. The writer comes back, unless the output or the memory failed.
   abbrev pub PrintsScript : {W : Type 0} → (W → Option (List ℕ)) → Option (List ℕ) → RunOptions → Option (List ℕ) → Result (Unit {0}) Fault → Option W → Type 0
   PrintsScript contents script options before ended output =
       UnlessUnheard ended (IsSomeAnd output (λ writer.

@@ -30,7 +30,8 @@ const DEFAULT_LOCAL: u32 = 1024;
 
 const DEFAULT_LOCAL_SHOWN: &str = "1024";
 
-/// How many groups of fast-path slots a session has, where the command line doesn't say, and as `--help` shows it.
+/// How many groups of fast-path slots a session has, where the command line doesn't say, and as `--help`
+/// shows it.
 const DEFAULT_GROUPS: u32 = 1;
 
 const DEFAULT_GROUPS_SHOWN: &str = "1";
@@ -59,8 +60,8 @@ For more information, try '--help'.
 /// The subcommand that runs a script's lines in every order.
 const ORDERS: &str = "orders";
 
-/// How many orders the subcommand `orders` runs at most, and how many where the command line doesn't say, and as
-/// `--help` shows it.
+/// How many orders the subcommand `orders` runs at most, and how many where the command line doesn't say, and
+/// as `--help` shows it.
 const MOST_ORDERS: u32 = 1_000_000;
 
 const USUAL_ORDERS: u32 = 10_000;
@@ -105,7 +106,8 @@ fn hammer_command<'a>(alloc: Global) -> Result<Command<'a>, AllocError> {
         .arg(rounds)
 }
 
-/// The subcommand `command` with the options of how large the lock manager is: it has `usual_sessions` sessions where they don't say.
+/// The subcommand `command` with the options of how large the lock manager is: it has `usual_sessions`
+/// sessions where they don't say.
 fn with_config<'a>(
     alloc: Global,
     command: Command<'a>,
@@ -246,8 +248,8 @@ impl NoRun {
     }
 }
 
-/// What `words` ask for, with each limit in its range: 1 to 64 sessions, 1 to 65,536 local entries, 1 to 8 groups
-/// of slots, 1 to 1,000,000 rounds. The first word is the program's name.
+/// What `words` ask for, with each limit in its range: 1 to 64 sessions, 1 to 65,536 local entries, 1 to 8
+/// groups of slots, 1 to 1,000,000 rounds. The first word is the program's name.
 pub fn parse_arguments(alloc: Global, words: &[String]) -> Result<Task, NoRun>
     ensures config { IfOk result (λ task. OfRun task IsForManager) }
     ensures slot_groups { IfOk result (λ task. OfRun task HasSlotGroups) }
@@ -271,8 +273,8 @@ fn refuse_summary(alloc: Global) -> NoRun {
     }
 }
 
-/// Whether the first of `words` after the program's name is the option that prints the man page. Where it is no subcommand is wanted, as none is for
-/// the help.
+/// Whether the first of `words` after the program's name is the option that prints the man page. Where it is
+/// no subcommand is wanted, as none is for the help.
 fn asks_for_man(words: &[String]) -> bool {
     match words.get(1) {
         Some(word) => word.as_str() == MAN,

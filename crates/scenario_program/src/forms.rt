@@ -9,7 +9,8 @@ const WIDTH: usize = 32;
 /// How wide a line of a help is at most.
 const LINE: usize = 80;
 
-/// The form of a line that is no command: the word with which the line begins, the words after that, and what the line does.
+/// The form of a line that is no command: the word with which the line begins, the words after that, and what
+/// the line does.
 pub struct OtherLine {
     pub verb: &'static str,
     pub form: &'static str,

@@ -26,7 +26,8 @@ static SQL_WORDS: [(&str, &str); 7] = [
     ("release", "unlock"),
 ];
 
-/// What somebody may type who is used to other shells, and the word with which such a line begins in this shell.
+/// What somebody may type who is used to other shells, and the word with which such a line begins in this
+/// shell.
 static SHELL_WORDS: [(&str, &str); 5] = [
     ("quit", "end"),
     ("exit", "end"),
@@ -59,8 +60,8 @@ pub fn hint_text(
     Ok(text)
 }
 
-/// Adds to `text` what is wrong with `line`: the defect `what`, the word that has it, and the nearest good word for `reader`, or what the word may
-/// be.
+/// Adds to `text` what is wrong with `line`: the defect `what`, the word that has it, and the nearest good
+/// word for `reader`, or what the word may be.
 pub fn push_correction(
     alloc: Global,
     text: &mut String,
@@ -89,8 +90,8 @@ pub fn push_correction(
     push_rule(text, what, words.as_slice(), reader)
 }
 
-/// The mode that SQL calls by those of `words` that begin where a script has a mode, as `ACCESS EXCLUSIVE`, if they name one. The word `session` at
-/// the end is left out.
+/// The mode that SQL calls by those of `words` that begin where a script has a mode, as `ACCESS EXCLUSIVE`,
+/// if they name one. The word `session` at the end is left out.
 fn mode_meant(alloc: Global, words: &[&str]) -> Result<Option<Mode>, AllocError> {
     let Some(place) = words.first().and_then(|verb| mode_place(*verb)) else {
         return Ok(None);
@@ -111,7 +112,8 @@ fn mode_place(verb: &str) -> Option<usize> {
     command_row(verb)?.place_of(WordKind::ModeName)
 }
 
-/// Which of `words` has the defect `what`, if the defect is that of a single word, where the open sessions are called `names`.
+/// Which of `words` has the defect `what`, if the defect is that of a single word, where the open sessions
+/// are called `names`.
 fn word_meant<'a>(what: Defect, words: &[&'a str], names: &[Name]) -> Option<&'a str> {
     let verb = words.first().copied()?;
     if what == Defect::UnknownCommand {
@@ -121,8 +123,8 @@ fn word_meant<'a>(what: Defect, words: &[&'a str], names: &[Name]) -> Option<&'a
     words.get(place).copied()
 }
 
-/// The place among `words`, a line of the command `row`, of the word that has the defect `what`, if the defect is that of a single word, where the
-/// open sessions are called `names`.
+/// The place among `words`, a line of the command `row`, of the word that has the defect `what`, if the
+/// defect is that of a single word, where the open sessions are called `names`.
 fn place_meant(what: Defect, row: &CommandRow, words: &[&str], names: &[Name]) -> Option<usize> {
     match what {
         Defect::SessionExists => row.place_of(WordKind::FreeName),
@@ -173,8 +175,8 @@ fn is_open(words: &[&str], names: &[Name]) -> bool {
     }
 }
 
-/// The word that is good for `reader` in place of `word`, which has the defect `what`: the most like it, where the good words can be listed and one
-/// is like it.
+/// The word that is good for `reader` in place of `word`, which has the defect `what`: the most like it,
+/// where the good words can be listed and one is like it.
 fn nearest_to(
     alloc: Global,
     what: Defect,
@@ -225,8 +227,8 @@ impl Nearest {
         })
     }
 
-    /// Looks at the words with which lines begin, those of a shell too where `is_in_shell`, and at the words that SQL and other shells have for
-    /// these.
+    /// Looks at the words with which lines begin, those of a shell too where `is_in_shell`, and at the words
+    /// that SQL and other shells have for these.
     fn look_at_verbs(&mut self, alloc: Global, is_in_shell: bool) -> Result<(), AllocError> {
         for row in command_rows() {
             self.look_at(alloc, row.verb, row.verb)?;
@@ -241,7 +243,8 @@ impl Nearest {
         Ok(())
     }
 
-    /// Looks at the first word of each of `pairs`, what others type, whose second one is the good word for it.
+    /// Looks at the first word of each of `pairs`, what others type, whose second one is the good word for
+    /// it.
     fn look_at_pairs(
         &mut self,
         alloc: Global,
@@ -253,7 +256,8 @@ impl Nearest {
         Ok(())
     }
 
-    /// Looks at `other`, which means the good word `good`. Of two words that are equally like the wanted one, the one seen first is kept.
+    /// Looks at `other`, which means the good word `good`. Of two words that are equally like the wanted one,
+    /// the one seen first is kept.
     fn look_at(&mut self, alloc: Global, other: &str, good: &str) -> Result<(), AllocError> {
         let lower = other.to_ascii_lowercase(alloc)?;
         let likeness = jaro_winkler(alloc, self.word.as_str(), lower.as_str())?;
@@ -265,7 +269,8 @@ impl Nearest {
     }
 }
 
-/// Ends the line of `text` with what a word with the defect `what` may be for `reader`, or with the form of the command that `words` begin with.
+/// Ends the line of `text` with what a word with the defect `what` may be for `reader`, or with the form of
+/// the command that `words` begin with.
 fn push_rule(
     text: &mut String,
     what: Defect,
@@ -285,7 +290,8 @@ fn push_rule(
     }
 }
 
-/// Ends the line of `text` with where `reader` finds the commands, or with which lock the SQL command `verb` takes.
+/// Ends the line of `text` with where `reader` finds the commands, or with which lock the SQL command `verb`
+/// takes.
 fn push_where_to_look(text: &mut String, verb: &str, reader: Reader) -> Result<(), AllocError> {
     if !reader.is_in_shell {
         return text.push_str("; lock_scenario run --help lists the commands\n");
@@ -308,8 +314,8 @@ fn push_open(text: &mut String, names: &[Name]) -> Result<(), AllocError> {
     text.push('\n')
 }
 
-/// Ends the line of `text` with the object that has the name, or with the name of the object, for `words`, a line that gives a name again. `objects`
-/// are those that have names.
+/// Ends the line of `text` with the object that has the name, or with the name of the object, for `words`, a
+/// line that gives a name again. `objects` are those that have names.
 fn push_named(
     text: &mut String,
     words: &[&str],

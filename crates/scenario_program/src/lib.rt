@@ -1,4 +1,5 @@
-//! The program over scripts: the words of its command line, a shell, orders, pictures of a whole script, help and the man page.
+//! The program over scripts: the words of its command line, a shell, orders, pictures of a whole script, help
+//! and the man page.
 #![tactic(auto)]
 
 mod arguments;

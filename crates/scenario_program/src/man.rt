@@ -60,8 +60,8 @@ fn push_section(page: &mut String, title: &str, text: &str) -> Result<(), AllocE
     page.push_str(".fi\n")
 }
 
-/// Adds to `page` the line `line`, so that `troff` prints it as it is: what `troff` would read as a request, or print as another character, is
-/// escaped.
+/// Adds to `page` the line `line`, so that `troff` prints it as it is: what `troff` would read as a request,
+/// or print as another character, is escaped.
 fn push_line(page: &mut String, line: &str) -> Result<(), AllocError> {
     if line.starts_with('.') {
         page.push_str("\\&")?;

@@ -22,7 +22,8 @@ pub fn push_modes(text: &mut String) -> Result<(), AllocError> {
     Ok(())
 }
 
-/// Adds to `text` what the mode that `words` name conflicts with, and the SQL commands that take this mode; nothing where `words` name no mode.
+/// Adds to `text` what the mode that `words` name conflicts with, and the SQL commands that take this mode;
+/// nothing where `words` name no mode.
 pub fn push_mode(text: &mut String, words: &str) -> Result<(), AllocError> {
     for mode in &Mode::ALL {
         if is_name_of(*mode, words) {
@@ -54,7 +55,8 @@ fn push_conflicts(text: &mut String, mode: Mode) -> Result<(), AllocError> {
     Ok(())
 }
 
-/// Whether `words` are the name of `mode` in a script or in SQL, as `access share` is, in letters of either case.
+/// Whether `words` are the name of `mode` in a script or in SQL, as `access share` is, in letters of either
+/// case.
 fn is_name_of(mode: Mode, words: &str) -> bool {
     let mut left = mode.name().as_bytes();
     for byte in words.bytes() {

@@ -4,8 +4,8 @@ use lock_script::Fault;
 use modes_core::{Mode, conflicts};
 use std::io::{self, Write};
 
-/// Prints on `output` a line for each lock mode: its number, its name, and the modes that it conflicts with, as a mask
-/// in hexadecimal, whose bit `1 << number` is the mode of that number (`LockConflicts` in lock.c).
+/// Prints on `output` a line for each lock mode: its number, its name, and the modes that it conflicts with,
+/// as a mask in hexadecimal, whose bit `1 << number` is the mode of that number (`LockConflicts` in lock.c).
 pub fn print_modes<W: Write + Drop>(output: W) -> Result<(), Fault> {
     write_modes(output).map_err(|_| Fault::WriteFailed)
 }

@@ -16,7 +16,8 @@ pub struct RunOptions {
 }
 
 impl RunOptions {
-    /// Whether the run is to list who waited though one picture of the script takes the place of all that is printed.
+    /// Whether the run is to list who waited though one picture of the script takes the place of all that is
+    /// printed.
     pub fn summarizes_a_drawing(self) -> bool {
         match self.style.graph {
             Some(drawing) => self.summary && drawing.is_of_all_lines(),

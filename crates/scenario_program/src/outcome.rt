@@ -129,7 +129,8 @@ impl Outcome {
     }
 }
 
-/// Whether `text` is a reason why SQL can't be played, and no line of a script: only such a reason ends with a line feed.
+/// Whether `text` is a reason why SQL can't be played, and no line of a script: only such a reason ends with
+/// a line feed.
 fn is_told(text: &String) -> bool {
     text.as_str().ends_with('\n')
 }

@@ -52,10 +52,12 @@ pub struct Errors<'a, E> {
     pub is_terminal: bool,
 }
 
-/// Runs the program, and answers its status: 0, 4 where a run or an SQL statement fails by `words`, 3 for a bad line of the script or a bad
-/// statement, 2 for refused words, and 1 for any other fault. The `words` are those of the command line, or the error of reading them. The script or
-/// the statements come from `input`, and a schema's file is read by `rt`. What the program prints, and texts that are asked for, go to `output`. Why
-/// the program ends early goes to `errors`; so does, at a terminal, that the program reads from there, and how far a hammer is.
+/// Runs the program, and answers its status: 0, 4 where a run or an SQL statement fails by `words`, 3 for a
+/// bad line of the script or a bad statement, 2 for refused words, and 1 for any other fault. The `words` are
+/// those of the command line, or the error of reading them. The script or the statements come from `input`,
+/// and a schema's file is read by `rt`. What the program prints, and texts that are asked for, go to
+/// `output`. Why the program ends early goes to `errors`; so does, at a terminal, that the program reads from
+/// there, and how far a hammer is.
 pub fn run_program<
     H: AllocGlobal + Clock + Files + Threads + Wait + Sync,
     R: Read + Drop,
@@ -286,8 +288,8 @@ fn run_hammers<H: AllocGlobal + Clock + Threads + Wait + Sync, W: Write + Drop, 
     run_hammer(rt, &OpenGate, output, hammer.sessions, hammer.rounds)
 }
 
-/// Runs the lines of `input` in every order, as `options` say, and shows by `errors` to somebody at a terminal how many
-/// were run. A bad line has a hint behind it where `hints`, and for somebody at a terminal.
+/// Runs the lines of `input` in every order, as `options` say, and shows by `errors` to somebody at a
+/// terminal how many were run. A bad line has a hint behind it where `hints`, and for somebody at a terminal.
 fn run_all_orders<H: AllocGlobal + Wait, R: Read + Drop, W: Write + Drop, E: Write>(
     rt: &H,
     config: Config,
@@ -316,8 +318,8 @@ fn run_all_orders<H: AllocGlobal + Wait, R: Read + Drop, W: Write + Drop, E: Wri
     }
 }
 
-/// Runs the lines of `input` as they are typed, against a lock manager of the size `config`. Where `reuse`, the numbers of closed sessions are
-/// given out again.
+/// Runs the lines of `input` as they are typed, against a lock manager of the size `config`. Where `reuse`,
+/// the numbers of closed sessions are given out again.
 fn run_typed<H: AllocGlobal + Wait, R: Read + Drop, W: Write + Drop>(
     rt: &H,
     config: Config,
@@ -343,7 +345,8 @@ fn print_man<W: Write + Drop>(alloc: Global, output: W) -> Result<(), Fault> {
     }
 }
 
-/// Says what each SQL statement of `input` locks, as `words` ask, on `output`, and answers the status of the program. Faults go to `errors`.
+/// Says what each SQL statement of `input` locks, as `words` ask, on `output`, and answers the status of the
+/// program. Faults go to `errors`.
 fn run_statements<H: AllocGlobal + Files, R: Read + Drop, W: Write + Drop, E: Write>(
     rt: &H,
     words: &[String],
@@ -367,7 +370,8 @@ const TYPED_SCRIPT: &str =
 /// What is printed for somebody at a terminal who is to type SQL.
 const TYPED_SQL: &str = "reading SQL statements from the terminal, to their end (Ctrl-D)";
 
-/// Says to somebody at a terminal, by `errors`, that the program reads the input from there, in the words `what`.
+/// Says to somebody at a terminal, by `errors`, that the program reads the input from there, in the words
+/// `what`.
 fn say_input_is_typed<E: Write>(errors: &mut E, what: &str) {
     // Where the errors can't be written, the input is read all the same.
     let _ = writeln!(errors, "{what}");

@@ -26,8 +26,8 @@ pub fn with_styles<'a>(alloc: Global, run: Command<'a>) -> Result<Command<'a>, A
 /// The name of the option by which the numbers of closed sessions are given out again.
 pub const REUSE: &str = "reuse";
 
-/// The argument `--reuse` of a command, by which the numbers of closed sessions are given out again. Takes memory by
-/// `alloc`.
+/// The argument `--reuse` of a command, by which the numbers of closed sessions are given out again. Takes
+/// memory by `alloc`.
 pub fn reuse_argument<'a>(alloc: Global) -> Arg<'a> {
     Arg::new(alloc, REUSE)
         .long(REUSE)

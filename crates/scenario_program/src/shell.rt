@@ -100,10 +100,11 @@ pub struct ShellOptions {
     pub reuse: bool,
 }
 
-/// Runs the lines that `reader` gives as a shell does, against a lock manager of the size `config`: what is wrong with a bad line is written to
-/// `writer`, with the nearest good word, and the shell goes on. Where `options` say that somebody types, the shell has a prompt; where they say that
-/// numbers are reused, a new session has the lowest number that no open session has. The shell ends with the line `end`, the input, or another fault,
-/// and then the sessions that are open are closed in silence.
+/// Runs the lines that `reader` gives as a shell does, against a lock manager of the size `config`: what is
+/// wrong with a bad line is written to `writer`, with the nearest good word, and the shell goes on. Where
+/// `options` say that somebody types, the shell has a prompt; where they say that numbers are reused, a new
+/// session has the lowest number that no open session has. The shell ends with the line `end`, the input, or
+/// another fault, and then the sessions that are open are closed in silence.
 pub fn run_shell<H: AllocGlobal + Wait, R: Read + Drop, W: Write + Drop>(
     rt: &H,
     reader: R,
@@ -144,8 +145,8 @@ impl<R: Read + Drop, L: Listener> Act<L> for Typing<R> {
     }
 }
 
-/// Runs the lines of `reader` in `scene` by `shell`, to the line that ends it, the end of the reader, or a fault that is no
-/// bad line's.
+/// Runs the lines of `reader` in `scene` by `shell`, to the line that ends it, the end of the reader, or a
+/// fault that is no bad line's.
 fn converse<
     T: PartTable,
     B: Board<T>,
@@ -183,7 +184,8 @@ fn prompt<L: Listener>(listener: &mut L, shell: Shell, text: &'static str) -> Re
     }
 }
 
-/// Has the shell go on after a line that was read to its end and isn't ASCII text, where that is the `fault`. Other faults end the shell.
+/// Has the shell go on after a line that was read to its end and isn't ASCII text, where that is the `fault`.
+/// Other faults end the shell.
 fn pass_over<L: Listener>(listener: &mut L, fault: Fault) -> Result<(), Fault> {
     match fault {
         Fault::BadLine {
@@ -247,7 +249,8 @@ fn answer_line<T: PartTable, B: Board<T>, D: ScriptDesk<OwnSession<T, B>>, L: Li
     }
 }
 
-/// What is wrong with `line`, which has the defect `what`, where `sessions` are open and `objects` have names.
+/// What is wrong with `line`, which has the defect `what`, where `sessions` are open and `objects` have
+/// names.
 fn correction<S, W>(
     alloc: Global,
     line: &str,
@@ -259,8 +262,8 @@ fn correction<S, W>(
     told(alloc, line, what, names.as_slice(), objects.as_slice())
 }
 
-/// What a shell says of `line`, which has the defect `what`, where sessions of these `names` are open and `objects`
-/// have names.
+/// What a shell says of `line`, which has the defect `what`, where sessions of these `names` are open and
+/// `objects` have names.
 fn told(
     alloc: Global,
     line: &str,

@@ -1,6 +1,7 @@
 //! The SQL commands that lock nothing, with what a script has in place of each.
 
-/// SQL commands that take no lock on a table, each with the line of a script that does in its place what the command does.
+/// SQL commands that take no lock on a table, each with the line of a script that does in its place what the
+/// command does.
 pub static OTHERS: [(&str, &str); 7] = [
     ("COMMIT", "commit NAME"),
     ("ROLLBACK", "abort NAME"),

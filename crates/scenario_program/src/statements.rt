@@ -9,9 +9,10 @@ use std::str::Split;
 /// The word of an SQL command that may be left out.
 const MAY_BE_MISSING: &str = "COLUMN";
 
-/// Adds to `text` a line for each SQL command that begins with `words`. Where none does, as with `alter table t add column c`, the lines are for the
-/// commands of which the most words are among `words`. Where these are only the first words of `words`, the lines are for the commands that begin as
-/// the longest command does with which `words` begin.
+/// Adds to `text` a line for each SQL command that begins with `words`. Where none does, as with
+/// `alter table t add column c`, the lines are for the commands of which the most words are among `words`.
+/// Where these are only the first words of `words`, the lines are for the commands that begin as the longest
+/// command does with which `words` begin.
 pub fn push_statements(text: &mut String, words: &str) -> Result<(), AllocError> {
     let before = text.len();
     push_beginning(text, words)?;
@@ -47,7 +48,8 @@ fn push_called(text: &mut String, called: &str) -> Result<(), AllocError> {
     Ok(())
 }
 
-/// Adds to `text` the line of `command`: the mode that the table of forms has for the command, and what else is to be said of it.
+/// Adds to `text` the line of `command`: the mode that the table of forms has for the command, and what else
+/// is to be said of it.
 fn push_command(text: &mut String, command: &SqlCommand) -> Result<(), AllocError> {
     if let Some(mode) = command.mode() {
         let (name, note) = (command.sql, command.note);
@@ -56,7 +58,8 @@ fn push_command(text: &mut String, command: &SqlCommand) -> Result<(), AllocErro
     Ok(())
 }
 
-/// The SQL command that has the most words of those commands whose words are all among `words`, if it has more than `beginning` words.
+/// The SQL command that has the most words of those commands whose words are all among `words`, if it has
+/// more than `beginning` words.
 fn fullest_within(words: &str, beginning: usize) -> Option<&'static str> {
     let mut fullest = None;
     let mut most = beginning;
@@ -101,7 +104,8 @@ fn push_beginning(text: &mut String, words: &str) -> Result<(), AllocError> {
     Ok(())
 }
 
-/// Whether `word` is among the words that are `left`, or is the next of them where `is_next`. The words up to it are taken out of `left`.
+/// Whether `word` is among the words that are `left`, or is the next of them where `is_next`. The words up to
+/// it are taken out of `left`.
 fn is_word_in<'a>(word: &str, left: &mut Split<'a, char>, is_next: bool) -> bool {
     while let Some(other) = left.next() {
         if is_same_word(word, other) {
@@ -114,7 +118,8 @@ fn is_word_in<'a>(word: &str, left: &mut Split<'a, char>, is_next: bool) -> bool
     false
 }
 
-/// Whether `word` and `other` are one word in letters of either case. The word `(..)` means any that begins with a parenthesis.
+/// Whether `word` and `other` are one word in letters of either case. The word `(..)` means any that begins
+/// with a parenthesis.
 fn is_same_word(word: &str, other: &str) -> bool {
     if word == "(..)" {
         return other.starts_with('(');

@@ -15,8 +15,9 @@ use std::alloc::{AllocError, Global};
 use std::io::{Read, Write};
 use std::sync::Wait;
 
-/// Runs the script that the reader gives, as `run_script` does, and writes a picture of the whole script: as SVG, or where `style` asks for
-/// `Drawing::Gantt` as Mermaid's chart, and with `style.json` as an object of JSON. Nothing is written where the script ends with a fault.
+/// Runs the script that the reader gives, as `run_script` does, and writes a picture of the whole script: as
+/// SVG, or where `style` asks for `Drawing::Gantt` as Mermaid's chart, and with `style.json` as an object of
+/// JSON. Nothing is written where the script ends with a fault.
 pub fn draw_script<H: AllocGlobal + Wait, R: Read + Drop, W: Write + Drop>(
     rt: &H,
     reader: R,
@@ -37,7 +38,8 @@ pub fn draw_script<H: AllocGlobal + Wait, R: Read + Drop, W: Write + Drop>(
     draw_heard_script(rt, reader, writer, config, options, &mut outcome)
 }
 
-/// Draws a script as `draw_script` does, run in turn as `options` say. What the run comes to is noted in `outcome`.
+/// Draws a script as `draw_script` does, run in turn as `options` say. What the run comes to is noted in
+/// `outcome`.
 pub fn draw_heard_script<H: AllocGlobal + Wait, R: Read + Drop, W: Write + Drop>(
     rt: &H,
     reader: R,
@@ -86,7 +88,8 @@ struct Asked {
     owner: Owner,
 }
 
-/// What a line of a script says for a timeline: whose line it is, which lock it is about, and what it does to the levels of a transaction.
+/// What a line of a script says for a timeline: whose line it is, which lock it is about, and what it does to
+/// the levels of a transaction.
 #[derive(Clone, Copy)]
 struct Played {
     name: Name,
@@ -121,7 +124,8 @@ impl Played {
     }
 }
 
-/// The lock that a line is about by `words`, those after its session: an object, a mode, and `session` or nothing; `objects` have names.
+/// The lock that a line is about by `words`, those after its session: an object, a mode, and `session` or
+/// nothing; `objects` have names.
 fn lock_of(words: &[&str], objects: &ObjectNames) -> Option<Asked> {
     let (tag, mode, owner) = match words {
         [tag, mode] => (*tag, *mode, Owner::Transaction),

@@ -1,5 +1,5 @@
-//! Hammers: what they print, gates that show in which threads the workers run, and the line that tells how far they
-//! are.
+//! Hammers: what they print, gates that show in which threads the workers run, and the line that tells how
+//! far they are.
 use crate::pipes::Pipe;
 use lock_hammer::{Gate, Hammer, OpenGate, Progress, ProgressLine, run_hammer, run_watched_hammer};
 use lock_manager::USUAL_SESSIONS;
@@ -76,8 +76,8 @@ impl Gate for GateShutFor {
     }
 }
 
-/// Runs a hammer of `sessions` and `rounds`, both brought into their ranges, with `gate`, and checks that it prints
-/// `printed` and that it ends with `fault`, as text (empty for none).
+/// Runs a hammer of `sessions` and `rounds`, both brought into their ranges, with `gate`, and checks that it
+/// prints `printed` and that it ends with `fault`, as text (empty for none).
 fn expect_hammer<G: Gate + Sync>(
     rt: &(impl Abort + AllocGlobal + Threads + Wait + Sync),
     gate: &G,
@@ -194,8 +194,8 @@ impl Progress for Listener {
     }
 }
 
-/// The worker for which a gate is shut, and how many rounds are reported then where each of four workers is to play a
-/// hundred.
+/// The worker for which a gate is shut, and how many rounds are reported then where each of four workers is
+/// to play a hundred.
 static TOLD: [(u32, u64); 3] = [(0, 300), (3, 300), (4, 400)];
 
 #[test]
@@ -220,8 +220,8 @@ fn tells_of_each_round_and_of_the_end(rt: HostRuntime) -> Result<(), Fail> {
     Ok(())
 }
 
-/// A clock on which a tenth of a second goes by from one reading to the next. It can be read a fixed number of times,
-/// and fails after that.
+/// A clock on which a tenth of a second goes by from one reading to the next. It can be read a fixed number
+/// of times, and fails after that.
 #[derive(Drop)]
 struct Ticks {
     read: AtomicU64,
@@ -243,8 +243,8 @@ impl Clock for Ticks {
     }
 }
 
-/// How many rounds one session plays, how often the clock can be read, and what the line says. The clock is read at
-/// first, after each 64 rounds, and at the end.
+/// How many rounds one session plays, how often the clock can be read, and what the line says. The clock is
+/// read at first, after each 64 rounds, and at the end.
 static LINES: [(u32, u64, &str); 4] = [
     (100, 100, ""),
     (

@@ -1,6 +1,6 @@
-//! Tests of what scripts do to a lock manager and print, of each text, and of what the program does with its words
-//! and streams, in a crate of their own: `scenario` has none, so that it is proved once. Apart from its tests there
-//! is nothing here.
+//! Tests of what scripts do to a lock manager and print, of each text, and of what the program does with its
+//! words and streams, in a crate of their own: `scenario` has none, so that it is proved once. Apart from its
+//! tests there is nothing here.
 #![tactic(auto)]
 
 #[cfg(test)]

@@ -10,7 +10,8 @@ use std::test::Fail;
 use std::thread::Threads;
 use std::time::Clock;
 
-/// What the program prints on the words `line` and the input `script`, where it ends well and nobody is at a terminal.
+/// What the program prints on the words `line` and the input `script`, where it ends well and nobody is at a
+/// terminal.
 pub fn printed(
     rt: &(impl Abort + AllocGlobal + Clock + Files + Threads + Wait + Sync),
     line: &str,

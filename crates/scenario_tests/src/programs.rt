@@ -1,5 +1,5 @@
-//! The program's statuses, and what it writes, where its words or its input can't be read and where its output can't be
-//! written. What it does otherwise stands in .ci/rows.
+//! The program's statuses, and what it writes, where its words or its input can't be read and where its
+//! output can't be written. What it does otherwise stands in .ci/rows.
 use crate::pipes::Pipe;
 use scenario_program::{Errors, Source, run_program};
 use std::alloc::Global;
@@ -35,8 +35,8 @@ pub fn words_of(alloc: Global, line: &str) -> Result<Vec<String>, Fail> {
     Ok(words)
 }
 
-/// A script, whether reading it fails at its end, and whether it is typed and the errors are read at a terminal; the
-/// status of the program on it, and what it writes to its output and to its errors.
+/// A script, whether reading it fails at its end, and whether it is typed and the errors are read at a
+/// terminal; the status of the program on it, and what it writes to its output and to its errors.
 type Run<'a> = (&'a str, bool, bool, u8, &'a str, &'a str);
 
 const OPENED: &str = "a: session 0 database 5\n";
@@ -140,8 +140,8 @@ fn tells_of_readers_that_fail(rt: HostRuntime) -> Result<(), Fail> {
     Ok(())
 }
 
-/// The words, a script, how many lines the output takes and whether a flush, the status, and how many lines the errors
-/// take.
+/// The words, a script, how many lines the output takes and whether a flush, the status, and how many lines
+/// the errors take.
 type Closed = (&'static str, &'static str, u32, bool, u8, u32);
 
 /// Runs with writers that fail. A line that the errors don't take changes no status.
@@ -168,8 +168,8 @@ static CLOSED: [Closed; 13] = [
     ("lock_scenario run --sessions 65", "", 1000, true, 2, 0),
 ];
 
-/// Runs the program on `words` with the writers of `run`, and checks its status, and that it writes what the errors
-/// take.
+/// Runs the program on `words` with the writers of `run`, and checks its status, and that it writes what the
+/// errors take.
 fn expect_closed(
     rt: &(impl Abort + AllocGlobal + Clock + Files + Threads + Wait + Sync),
     words: Vec<String>,

@@ -1,4 +1,5 @@
-//! Requests with what they are answered, which stand in .ci/rows/requests.rows (`.ci/scenarios` writes them here).
+//! Requests with what they are answered, which stand in .ci/rows/requests.rows (`.ci/scenarios` writes them
+//! here).
 use lock_manager::Config;
 
 /// The manager that each script is run with, the script, and what it prints.

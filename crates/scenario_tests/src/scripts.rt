@@ -1,5 +1,5 @@
-//! The requests of .ci/rows/requests.rows on `run_script`, by readers that give some bytes a read, and scripts whose
-//! output can't be written.
+//! The requests of .ci/rows/requests.rows on `run_script`, by readers that give some bytes a read, and
+//! scripts whose output can't be written.
 use crate::pipes::Pipe;
 use crate::requests::REQUESTS;
 use lock_manager::{Config, MOST_GROUPS, MOST_LOCAL, USUAL_SESSIONS};
@@ -35,8 +35,8 @@ pub const ALL_SESSIONS: Config = Config {
     slot_groups: 1,
 };
 
-/// Runs `script`, which is read `most` bytes at a time, and checks that it ends well and prints `printed`. Numbers of
-/// `config` that are out of their ranges are brought into them.
+/// Runs `script`, which is read `most` bytes at a time, and checks that it ends well and prints `printed`.
+/// Numbers of `config` that are out of their ranges are brought into them.
 fn expect_read(
     rt: &(impl Abort + AllocGlobal + Wait),
     config: Config,
@@ -93,8 +93,8 @@ const TWELVE_WAIT: &str =
              lock a_b 5/1259/16384/0 ShareLock\nsession e9 5\nlock e9 5/1259/16384/0 ShareLock\n\
              session a 5\nlock a 5/1259/16384/0 ShareLock\ncommit holder\n";
 
-/// Runs `script` with the output `pipe`, which takes some lines, and a flush only if it is to, and checks that it ends
-/// as `expected`.
+/// Runs `script` with the output `pipe`, which takes some lines, and a flush only if it is to, and checks
+/// that it ends as `expected`.
 fn expect_ended(
     rt: &(impl Abort + AllocGlobal + Wait),
     script: &str,

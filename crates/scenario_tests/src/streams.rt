@@ -95,8 +95,8 @@ fn expect_end(
     assert_eq!(rt; output, printed);
 }
 
-/// Runs `script` with a reader that fails after `reads` reads of at most `most` bytes. The lines that come before the
-/// failure are run.
+/// Runs `script` with a reader that fails after `reads` reads of at most `most` bytes. The lines that come
+/// before the failure are run.
 fn expect_read_failed(
     rt: &(impl Abort + AllocGlobal + Wait),
     script: &str,
@@ -122,8 +122,8 @@ fn expect_read_failed(
     Ok(())
 }
 
-/// Runs `script` with a writer that fails after `writes` writes. The writer has taken what was printed of `printed`
-/// before the failure.
+/// Runs `script` with a writer that fails after `writes` writes. The writer has taken what was printed of
+/// `printed` before the failure.
 fn expect_written(
     rt: &(impl Abort + AllocGlobal + Wait),
     script: &str,

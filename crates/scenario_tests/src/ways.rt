@@ -31,8 +31,8 @@ static LINES: [(&str, &str); 5] = [
     ("commit ", ""),
 ];
 
-/// A small script: to which session each of its lines belongs (lines are in the order of the sessions), and which of
-/// `LINES` it is.
+/// A small script: to which session each of its lines belongs (lines are in the order of the sessions), and
+/// which of `LINES` it is.
 #[derive(Drop)]
 struct Small {
     owners: Vec<usize>,
@@ -200,8 +200,8 @@ fn end_line(told: &mut String, is_any: bool) -> Result<(), AllocError> {
     if is_any { told.push('\n') } else { Ok(()) }
 }
 
-/// Plays the order `merge` of `small` alone, and answers what is said of that order. `None` for an order in which a
-/// line comes from a session that waits while another one could go on.
+/// Plays the order `merge` of `small` alone, and answers what is said of that order. `None` for an order in
+/// which a line comes from a session that waits while another one could go on.
 fn played_alone(
     rt: &(impl Abort + AllocGlobal + Wait),
     small: &Small,

@@ -90,7 +90,8 @@ module _
     written = still-written (text_of_all it.form is_echoing 0 it.heard) before after (contents writer) it.written kept;
   }
 
-  -- What a witness at a buffer heard of a script stands in the writer behind the buffer, which has got it all.
+  -- What a witness at a buffer heard of a script stands in the writer behind the buffer, which has got it
+  -- all.
   pub script-printed :
       {A : Type 0} (script : Option (List ℕ)) (options : RunOptions) (before : Option (List ℕ)) (old new : Witness (BufWriter W A))
       (ended last : Result (Unit {0}) Fault) (output : Option W) → old.summary ≡ None → IsFormOf options.style.json old.output.form →
