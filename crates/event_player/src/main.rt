@@ -4,6 +4,7 @@
 
 mod long_run;
 mod looks;
+mod one_list;
 mod play;
 mod steps;
 mod words;

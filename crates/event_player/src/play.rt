@@ -2,10 +2,12 @@
 //!
 //! `test NAME` begins a test, with one group of slots a session, or as many as `groups N` says.
 //! `given EVENTS` adds events that all of its cases begin with, `case EVENTS` begins a case, `then EVENTS`
-//! adds events to it, and `see LOOKS` runs its events and looks at what the machine shows. Events and looks
-//! are parted by semicolons, their words by blanks; a line that begins with `#` is a comment.
+//! adds events to it, and `see LOOKS` runs its events and looks at what the machine shows. `tell EVENTS` adds
+//! events, and prints the list of holds and waits after each of them. Events and looks are parted by
+//! semicolons, their words by blanks; a line that begins with `#` is a comment.
 
 use crate::looks::look;
+use crate::one_list::tell;
 use crate::steps::parse_step;
 use crate::words::{Words, index, mode, session, small_number, tag};
 use anyhow::Result;
@@ -48,7 +50,11 @@ pub fn play_script(rt: &(impl AllocGlobal + Print), script: &str) -> Result<bool
         if let Some(name) = line.strip_prefix("test ") {
             println!(rt; "  {name}")?;
         }
-        match play_line(alloc, &mut test, line)? {
+        let played = match line.strip_prefix("tell ") {
+            Some(text) => told(tell(rt, test.groups, &mut test.events, text)?),
+            None => play_line(alloc, &mut test, line)?,
+        };
+        match played {
             Played::Well => {}
             Played::Wrong => {
                 println!(rt; "WRONG: {line}")?;
@@ -61,6 +67,15 @@ pub fn play_script(rt: &(impl AllocGlobal + Print), script: &str) -> Result<bool
         }
     }
     Ok(is_right)
+}
+
+/// What a line came to whose events could be read, or could not: `is_read` says which.
+fn told(is_read: bool) -> Played {
+    if is_read {
+        Played::Well
+    } else {
+        Played::Unread
+    }
 }
 
 /// Plays `line` of a script: a step or a look of `test`, or the beginning of another test.
@@ -114,7 +129,7 @@ fn add_events(events: &mut Vec<Event>, text: &str) -> Result<Played> {
 
 /// Adds the event that `words` name to `events`, or the events of a walk, and answers whether `words` name an
 /// event or a walk.
-fn add_event(events: &mut Vec<Event>, words: &mut Words) -> Result<bool> {
+pub fn add_event(events: &mut Vec<Event>, words: &mut Words) -> Result<bool> {
     let (Some(session), Some(verb)) = (session(words), words.next()) else {
         return Ok(false);
     };
