@@ -10,17 +10,8 @@ pub static REQUESTS: [(Config, &str, &str); 33] = [
             max_local: 1024,
             slot_groups: 1,
         },
-        "\
-session a 5
-try a 5/16384 AccessShareLock
-list a
-",
-        "\
-a: session 0 database 5
-a: granted
-fast a 15 5/16384 AccessShareLock
-rows 1
-",
+        "session a 5\ntry a 5/16384 AccessShareLock\nlist a\n",
+        "a: session 0 database 5\na: granted\nfast a 15 5/16384 AccessShareLock\nrows 1\n",
     ),
     (
         Config {
@@ -28,22 +19,10 @@ rows 1
             max_local: 1024,
             slot_groups: 1,
         },
-        "\
-session a 5
-fast a 5/16384 AccessShareLock
-fast a 5/16384 RowExclusiveLock
-fast a 5/16384 ShareUpdateExclusiveLock
-list a
-",
-        "\
-a: session 0 database 5
-a: granted
-a: granted
-a: refused 11 not eligible
-fast a 15 5/16384 AccessShareLock
-fast a 15 5/16384 RowExclusiveLock
-rows 2
-",
+        "session a 5\nfast a 5/16384 AccessShareLock\nfast a 5/16384 RowExclusiveLock\n\
+         fast a 5/16384 ShareUpdateExclusiveLock\nlist a\n",
+        "a: session 0 database 5\na: granted\na: granted\na: refused 11 not eligible\n\
+         fast a 15 5/16384 AccessShareLock\nfast a 15 5/16384 RowExclusiveLock\nrows 2\n",
     ),
     (
         Config {
@@ -51,22 +30,9 @@ rows 2
             max_local: 1024,
             slot_groups: 1,
         },
-        "\
-session a 5
-try a 5/16384 ShareLock
-try a 5/16384 RowExclusiveLock
-count a 796
-list a
-",
-        "\
-a: session 0 database 5
-a: granted
-a: granted
-strong 796 1
-table a 5/16384 RowExclusiveLock granted
-table a 5/16384 ShareLock granted
-rows 2
-",
+        "session a 5\ntry a 5/16384 ShareLock\ntry a 5/16384 RowExclusiveLock\ncount a 796\nlist a\n",
+        "a: session 0 database 5\na: granted\na: granted\nstrong 796 1\n\
+         table a 5/16384 RowExclusiveLock granted\ntable a 5/16384 ShareLock granted\nrows 2\n",
     ),
     (
         Config {
@@ -74,23 +40,11 @@ rows 2
             max_local: 1024,
             slot_groups: 1,
         },
-        "\
-session a 5
-session b 5
-try a 5/16384 RowExclusiveLock
-try b 5/16384 ShareLock
-count a 796
-list a
-",
-        "\
-a: session 0 database 5
-b: session 1 database 5
-a: granted
-b: refused 1 conflict a RowExclusiveLock held
-strong 796 0
-table a 5/16384 RowExclusiveLock granted
-rows 1
-",
+        "session a 5\nsession b 5\ntry a 5/16384 RowExclusiveLock\ntry b 5/16384 ShareLock\ncount a 796\n\
+         list a\n",
+        "a: session 0 database 5\nb: session 1 database 5\na: granted\n\
+         b: refused 1 conflict a RowExclusiveLock held\nstrong 796 0\n\
+         table a 5/16384 RowExclusiveLock granted\nrows 1\n",
     ),
     (
         Config {
@@ -98,33 +52,13 @@ rows 1
             max_local: 1024,
             slot_groups: 1,
         },
-        "\
-session a 5
-session b 5
-try a 5/16384 AccessShareLock
-lock b 5/16384 AccessExclusiveLock
-count a 796
-waiters a 5/16384 AccessShareLock
-list a
-unlock a 5/16384 AccessShareLock
-commit b
-count a 796
-",
-        "\
-a: session 0 database 5
-b: session 1 database 5
-a: granted
-b: waits
-strong 796 1
-a: waiters yes
-table a 5/16384 AccessShareLock granted
-table b 5/16384 AccessExclusiveLock awaited
-rows 2
-a: released
-b: granted after waiting
-b: committed
-strong 796 0
-",
+        "session a 5\nsession b 5\ntry a 5/16384 AccessShareLock\nlock b 5/16384 AccessExclusiveLock\n\
+         count a 796\nwaiters a 5/16384 AccessShareLock\nlist a\nunlock a 5/16384 AccessShareLock\n\
+         commit b\ncount a 796\n",
+        "a: session 0 database 5\nb: session 1 database 5\na: granted\nb: waits\nstrong 796 1\n\
+         a: waiters yes\ntable a 5/16384 AccessShareLock granted\n\
+         table b 5/16384 AccessExclusiveLock awaited\nrows 2\na: released\nb: granted after waiting\n\
+         b: committed\nstrong 796 0\n",
     ),
     (
         Config {
@@ -132,28 +66,12 @@ strong 796 0
             max_local: 1024,
             slot_groups: 1,
         },
-        "\
-session a 5
-session b 5
-try a 5/16384 AccessExclusiveLock
-try b 5/17408 AccessShareLock
-fast b 5/17408 RowShareLock
-hash 5/16384
-hash 5/17408
-list a
-",
-        "\
-a: session 0 database 5
-b: session 1 database 5
-a: granted
-b: granted
-b: refused 10 strong lock counted
-hash 2389211932 partition 12 strong 796
-hash 3334897436 partition 12 strong 796
-table a 5/16384 AccessExclusiveLock granted
-table b 5/17408 AccessShareLock granted
-rows 2
-",
+        "session a 5\nsession b 5\ntry a 5/16384 AccessExclusiveLock\ntry b 5/17408 AccessShareLock\n\
+         fast b 5/17408 RowShareLock\nhash 5/16384\nhash 5/17408\nlist a\n",
+        "a: session 0 database 5\nb: session 1 database 5\na: granted\nb: granted\n\
+         b: refused 10 strong lock counted\nhash 2389211932 partition 12 strong 796\n\
+         hash 3334897436 partition 12 strong 796\ntable a 5/16384 AccessExclusiveLock granted\n\
+         table b 5/17408 AccessShareLock granted\nrows 2\n",
     ),
     (
         Config {
@@ -161,22 +79,10 @@ rows 2
             max_local: 1024,
             slot_groups: 1,
         },
-        "\
-session a 5
-session b 5
-session c 5
-try a 5/16384 AccessShareLock
-lock b 5/16384 AccessExclusiveLock
-try c 5/16384 AccessShareLock
-",
-        "\
-a: session 0 database 5
-b: session 1 database 5
-c: session 2 database 5
-a: granted
-b: waits
-c: refused 1 conflict b AccessExclusiveLock awaited
-",
+        "session a 5\nsession b 5\nsession c 5\ntry a 5/16384 AccessShareLock\n\
+         lock b 5/16384 AccessExclusiveLock\ntry c 5/16384 AccessShareLock\n",
+        "a: session 0 database 5\nb: session 1 database 5\nc: session 2 database 5\na: granted\n\
+         b: waits\nc: refused 1 conflict b AccessExclusiveLock awaited\n",
     ),
     (
         Config {
@@ -184,37 +90,14 @@ c: refused 1 conflict b AccessExclusiveLock awaited
             max_local: 1024,
             slot_groups: 1,
         },
-        "\
-session a 5
-session b 5
-session c 5
-session d 5
-session e 5
-lock a 5/16384 AccessExclusiveLock
-lock b 5/16384 ShareLock
-lock c 5/16384 RowExclusiveLock
-lock d 5/16384 RowShareLock
-lock e 5/16384 ShareLock
-unlock a 5/16384 AccessExclusiveLock
-unlock b 5/16384 ShareLock
-",
-        "\
-a: session 0 database 5
-b: session 1 database 5
-c: session 2 database 5
-d: session 3 database 5
-e: session 4 database 5
-a: granted
-b: waits
-c: waits
-d: waits
-e: waits
-a: released
-b: granted after waiting
-d: granted after waiting
-b: released
-c: granted after waiting
-",
+        "session a 5\nsession b 5\nsession c 5\nsession d 5\nsession e 5\n\
+         lock a 5/16384 AccessExclusiveLock\nlock b 5/16384 ShareLock\nlock c 5/16384 RowExclusiveLock\n\
+         lock d 5/16384 RowShareLock\nlock e 5/16384 ShareLock\nunlock a 5/16384 AccessExclusiveLock\n\
+         unlock b 5/16384 ShareLock\n",
+        "a: session 0 database 5\nb: session 1 database 5\nc: session 2 database 5\n\
+         d: session 3 database 5\ne: session 4 database 5\na: granted\nb: waits\nc: waits\nd: waits\n\
+         e: waits\na: released\nb: granted after waiting\nd: granted after waiting\nb: released\n\
+         c: granted after waiting\n",
     ),
     (
         Config {
@@ -222,22 +105,10 @@ c: granted after waiting
             max_local: 1024,
             slot_groups: 1,
         },
-        "\
-session a 5
-session b 5
-try a 5/16384 AccessShareLock
-lock b 5/16384 AccessExclusiveLock
-try a 5/16384 RowExclusiveLock
-lock a 5/16384 RowExclusiveLock
-",
-        "\
-a: session 0 database 5
-b: session 1 database 5
-a: granted
-b: waits
-a: refused 1 conflict b AccessExclusiveLock awaited
-a: granted
-",
+        "session a 5\nsession b 5\ntry a 5/16384 AccessShareLock\nlock b 5/16384 AccessExclusiveLock\n\
+         try a 5/16384 RowExclusiveLock\nlock a 5/16384 RowExclusiveLock\n",
+        "a: session 0 database 5\nb: session 1 database 5\na: granted\nb: waits\n\
+         a: refused 1 conflict b AccessExclusiveLock awaited\na: granted\n",
     ),
     (
         Config {
@@ -245,27 +116,11 @@ a: granted
             max_local: 1024,
             slot_groups: 1,
         },
-        "\
-session a 5
-session b 5
-session c 5
-try a 5/16384 AccessShareLock
-try c 5/16384 RowExclusiveLock
-lock b 5/16384 AccessExclusiveLock
-lock a 5/16384 ShareLock
-unlock c 5/16384 RowExclusiveLock
-",
-        "\
-a: session 0 database 5
-b: session 1 database 5
-c: session 2 database 5
-a: granted
-c: granted
-b: waits
-a: waits
-c: released
-a: granted after waiting
-",
+        "session a 5\nsession b 5\nsession c 5\ntry a 5/16384 AccessShareLock\n\
+         try c 5/16384 RowExclusiveLock\nlock b 5/16384 AccessExclusiveLock\nlock a 5/16384 ShareLock\n\
+         unlock c 5/16384 RowExclusiveLock\n",
+        "a: session 0 database 5\nb: session 1 database 5\nc: session 2 database 5\na: granted\n\
+         c: granted\nb: waits\na: waits\nc: released\na: granted after waiting\n",
     ),
     (
         Config {
@@ -273,29 +128,12 @@ a: granted after waiting
             max_local: 1024,
             slot_groups: 1,
         },
-        "\
-session a 5
-session b 5
-try a 5/16384 ShareLock
-try b 5/16384 ShareLock
-lock a 5/16384 ExclusiveLock
-lock b 5/16384 ExclusiveLock
-count b 796
-unlock b 5/16384 ShareLock
-count b 796
-",
-        "\
-a: session 0 database 5
-b: session 1 database 5
-a: granted
-b: granted
-a: waits
-b: refused 5 simple deadlock a
-strong 796 3
-b: released
-a: granted after waiting
-strong 796 2
-",
+        "session a 5\nsession b 5\ntry a 5/16384 ShareLock\ntry b 5/16384 ShareLock\n\
+         lock a 5/16384 ExclusiveLock\nlock b 5/16384 ExclusiveLock\ncount b 796\n\
+         unlock b 5/16384 ShareLock\ncount b 796\n",
+        "a: session 0 database 5\nb: session 1 database 5\na: granted\nb: granted\na: waits\n\
+         b: refused 5 simple deadlock a\nstrong 796 3\nb: released\na: granted after waiting\n\
+         strong 796 2\n",
     ),
     (
         Config {
@@ -303,70 +141,25 @@ strong 796 2
             max_local: 1024,
             slot_groups: 1,
         },
-        "\
-session a 5
-try a 5/16384 AccessShareLock
-try a 5/16385 AccessShareLock
-try a 5/16386 AccessShareLock
-try a 5/16387 AccessShareLock
-try a 5/16388 AccessShareLock
-try a 5/16389 AccessShareLock
-try a 5/16390 AccessShareLock
-try a 5/16391 AccessShareLock
-try a 5/16392 AccessShareLock
-try a 5/16393 AccessShareLock
-try a 5/16394 AccessShareLock
-try a 5/16395 AccessShareLock
-try a 5/16396 AccessShareLock
-try a 5/16397 AccessShareLock
-try a 5/16398 AccessShareLock
-try a 5/16399 AccessShareLock
-try a 5/16400 AccessShareLock
-try a 5/16384 RowShareLock
-list a
-fast a 5/16401 AccessShareLock
-",
-        "\
-a: session 0 database 5
-a: granted
-a: granted
-a: granted
-a: granted
-a: granted
-a: granted
-a: granted
-a: granted
-a: granted
-a: granted
-a: granted
-a: granted
-a: granted
-a: granted
-a: granted
-a: granted
-a: granted
-a: granted
-fast a 0 5/16399 AccessShareLock
-fast a 1 5/16398 AccessShareLock
-fast a 2 5/16397 AccessShareLock
-fast a 3 5/16396 AccessShareLock
-fast a 4 5/16395 AccessShareLock
-fast a 5 5/16394 AccessShareLock
-fast a 6 5/16393 AccessShareLock
-fast a 7 5/16392 AccessShareLock
-fast a 8 5/16391 AccessShareLock
-fast a 9 5/16390 AccessShareLock
-fast a 10 5/16389 AccessShareLock
-fast a 11 5/16388 AccessShareLock
-fast a 12 5/16387 AccessShareLock
-fast a 13 5/16386 AccessShareLock
-fast a 14 5/16385 AccessShareLock
-fast a 15 5/16384 AccessShareLock
-table a 5/16384 RowShareLock granted
-table a 5/16400 AccessShareLock granted
-rows 18
-a: refused 9 slots full
-",
+        "session a 5\ntry a 5/16384 AccessShareLock\ntry a 5/16385 AccessShareLock\n\
+         try a 5/16386 AccessShareLock\ntry a 5/16387 AccessShareLock\ntry a 5/16388 AccessShareLock\n\
+         try a 5/16389 AccessShareLock\ntry a 5/16390 AccessShareLock\ntry a 5/16391 AccessShareLock\n\
+         try a 5/16392 AccessShareLock\ntry a 5/16393 AccessShareLock\ntry a 5/16394 AccessShareLock\n\
+         try a 5/16395 AccessShareLock\ntry a 5/16396 AccessShareLock\ntry a 5/16397 AccessShareLock\n\
+         try a 5/16398 AccessShareLock\ntry a 5/16399 AccessShareLock\ntry a 5/16400 AccessShareLock\n\
+         try a 5/16384 RowShareLock\nlist a\nfast a 5/16401 AccessShareLock\n",
+        "a: session 0 database 5\na: granted\na: granted\na: granted\na: granted\na: granted\n\
+         a: granted\na: granted\na: granted\na: granted\na: granted\na: granted\na: granted\na: granted\n\
+         a: granted\na: granted\na: granted\na: granted\na: granted\nfast a 0 5/16399 AccessShareLock\n\
+         fast a 1 5/16398 AccessShareLock\nfast a 2 5/16397 AccessShareLock\n\
+         fast a 3 5/16396 AccessShareLock\nfast a 4 5/16395 AccessShareLock\n\
+         fast a 5 5/16394 AccessShareLock\nfast a 6 5/16393 AccessShareLock\n\
+         fast a 7 5/16392 AccessShareLock\nfast a 8 5/16391 AccessShareLock\n\
+         fast a 9 5/16390 AccessShareLock\nfast a 10 5/16389 AccessShareLock\n\
+         fast a 11 5/16388 AccessShareLock\nfast a 12 5/16387 AccessShareLock\n\
+         fast a 13 5/16386 AccessShareLock\nfast a 14 5/16385 AccessShareLock\n\
+         fast a 15 5/16384 AccessShareLock\ntable a 5/16384 RowShareLock granted\n\
+         table a 5/16400 AccessShareLock granted\nrows 18\na: refused 9 slots full\n",
     ),
     (
         Config {
@@ -374,74 +167,26 @@ a: refused 9 slots full
             max_local: 1024,
             slot_groups: 1,
         },
-        "\
-session a 5
-session b 5
-try a 5/16384 AccessShareLock
-try a 5/16385 AccessShareLock
-try a 5/16386 AccessShareLock
-try a 5/16387 AccessShareLock
-try a 5/16388 AccessShareLock
-try a 5/16389 AccessShareLock
-try a 5/16390 AccessShareLock
-try a 5/16391 AccessShareLock
-try a 5/16392 AccessShareLock
-try a 5/16393 AccessShareLock
-try a 5/16394 AccessShareLock
-try a 5/16395 AccessShareLock
-try a 5/16396 AccessShareLock
-try a 5/16397 AccessShareLock
-try a 5/16398 AccessShareLock
-try a 5/16399 AccessShareLock
-lock b 5/16384 AccessExclusiveLock
-try a 5/16400 AccessShareLock
-unlock a 5/16399 AccessShareLock
-try a 5/16401 AccessShareLock
-list a
-",
-        "\
-a: session 0 database 5
-b: session 1 database 5
-a: granted
-a: granted
-a: granted
-a: granted
-a: granted
-a: granted
-a: granted
-a: granted
-a: granted
-a: granted
-a: granted
-a: granted
-a: granted
-a: granted
-a: granted
-a: granted
-b: waits
-a: granted
-a: released
-a: granted
-fast a 1 5/16398 AccessShareLock
-fast a 2 5/16397 AccessShareLock
-fast a 3 5/16396 AccessShareLock
-fast a 4 5/16395 AccessShareLock
-fast a 5 5/16394 AccessShareLock
-fast a 6 5/16393 AccessShareLock
-fast a 7 5/16392 AccessShareLock
-fast a 8 5/16391 AccessShareLock
-fast a 9 5/16390 AccessShareLock
-fast a 10 5/16389 AccessShareLock
-fast a 11 5/16388 AccessShareLock
-fast a 12 5/16387 AccessShareLock
-fast a 13 5/16386 AccessShareLock
-fast a 14 5/16385 AccessShareLock
-fast a 15 5/16401 AccessShareLock
-table a 5/16384 AccessShareLock granted
-table b 5/16384 AccessExclusiveLock awaited
-table a 5/16400 AccessShareLock granted
-rows 18
-",
+        "session a 5\nsession b 5\ntry a 5/16384 AccessShareLock\ntry a 5/16385 AccessShareLock\n\
+         try a 5/16386 AccessShareLock\ntry a 5/16387 AccessShareLock\ntry a 5/16388 AccessShareLock\n\
+         try a 5/16389 AccessShareLock\ntry a 5/16390 AccessShareLock\ntry a 5/16391 AccessShareLock\n\
+         try a 5/16392 AccessShareLock\ntry a 5/16393 AccessShareLock\ntry a 5/16394 AccessShareLock\n\
+         try a 5/16395 AccessShareLock\ntry a 5/16396 AccessShareLock\ntry a 5/16397 AccessShareLock\n\
+         try a 5/16398 AccessShareLock\ntry a 5/16399 AccessShareLock\n\
+         lock b 5/16384 AccessExclusiveLock\ntry a 5/16400 AccessShareLock\n\
+         unlock a 5/16399 AccessShareLock\ntry a 5/16401 AccessShareLock\nlist a\n",
+        "a: session 0 database 5\nb: session 1 database 5\na: granted\na: granted\na: granted\n\
+         a: granted\na: granted\na: granted\na: granted\na: granted\na: granted\na: granted\na: granted\n\
+         a: granted\na: granted\na: granted\na: granted\na: granted\nb: waits\na: granted\na: released\n\
+         a: granted\nfast a 1 5/16398 AccessShareLock\nfast a 2 5/16397 AccessShareLock\n\
+         fast a 3 5/16396 AccessShareLock\nfast a 4 5/16395 AccessShareLock\n\
+         fast a 5 5/16394 AccessShareLock\nfast a 6 5/16393 AccessShareLock\n\
+         fast a 7 5/16392 AccessShareLock\nfast a 8 5/16391 AccessShareLock\n\
+         fast a 9 5/16390 AccessShareLock\nfast a 10 5/16389 AccessShareLock\n\
+         fast a 11 5/16388 AccessShareLock\nfast a 12 5/16387 AccessShareLock\n\
+         fast a 13 5/16386 AccessShareLock\nfast a 14 5/16385 AccessShareLock\n\
+         fast a 15 5/16401 AccessShareLock\ntable a 5/16384 AccessShareLock granted\n\
+         table b 5/16384 AccessExclusiveLock awaited\ntable a 5/16400 AccessShareLock granted\nrows 18\n",
     ),
     (
         Config {
@@ -449,28 +194,12 @@ rows 18
             max_local: 1024,
             slot_groups: 1,
         },
-        "\
-session a 5
-try a 5/16384 AccessShareLock
-try a 5/16384 AccessShareLock
-try a 5/16384 AccessShareLock session
-commit a
-owned a 5/16384 AccessShareLock
-abort a
-owned a 5/16384 AccessShareLock
-unlock a 5/16384 AccessShareLock session
-",
-        "\
-a: session 0 database 5
-a: granted
-a: already held
-a: already held
-a: committed
-a: transaction 0 session 1
-a: aborted
-a: transaction 0 session 0
-a: you don't own a lock of type AccessShareLock
-",
+        "session a 5\ntry a 5/16384 AccessShareLock\ntry a 5/16384 AccessShareLock\n\
+         try a 5/16384 AccessShareLock session\ncommit a\nowned a 5/16384 AccessShareLock\nabort a\n\
+         owned a 5/16384 AccessShareLock\nunlock a 5/16384 AccessShareLock session\n",
+        "a: session 0 database 5\na: granted\na: already held\na: already held\na: committed\n\
+         a: transaction 0 session 1\na: aborted\na: transaction 0 session 0\n\
+         a: you don't own a lock of type AccessShareLock\n",
     ),
     (
         Config {
@@ -478,30 +207,12 @@ a: you don't own a lock of type AccessShareLock
             max_local: 1024,
             slot_groups: 1,
         },
-        "\
-session a 5
-session b 5
-session c 5
-try a 5/16384 AccessShareLock
-lock b 5/16384 AccessExclusiveLock
-lock c 5/16384 AccessShareLock
-cancel a b
-count a 796
-cancel a b
-",
-        "\
-a: session 0 database 5
-b: session 1 database 5
-c: session 2 database 5
-a: granted
-b: waits
-c: waits
-a: asked b
-b: cancelled
-c: granted after waiting
-strong 796 0
-b isn't waiting
-",
+        "session a 5\nsession b 5\nsession c 5\ntry a 5/16384 AccessShareLock\n\
+         lock b 5/16384 AccessExclusiveLock\nlock c 5/16384 AccessShareLock\ncancel a b\ncount a 796\n\
+         cancel a b\n",
+        "a: session 0 database 5\nb: session 1 database 5\nc: session 2 database 5\na: granted\n\
+         b: waits\nc: waits\na: asked b\nb: cancelled\nc: granted after waiting\nstrong 796 0\n\
+         b isn't waiting\n",
     ),
     (
         Config {
@@ -509,14 +220,8 @@ b isn't waiting
             max_local: 1024,
             slot_groups: 1,
         },
-        "\
-session a 5
-session b 5
-",
-        "\
-a: session 0 database 5
-b: refused 12 no more sessions
-",
+        "session a 5\nsession b 5\n",
+        "a: session 0 database 5\nb: refused 12 no more sessions\n",
     ),
     (
         Config {
@@ -524,20 +229,10 @@ b: refused 12 no more sessions
             max_local: 2,
             slot_groups: 1,
         },
-        "\
-session a 5
-try a 5/1 AccessShareLock
-try a 5/2 AccessShareLock
-try a 5/3 AccessShareLock
-try a 5/1 AccessShareLock
-",
-        "\
-a: session 0 database 5
-a: granted
-a: granted
-a: refused 3 local table full
-a: already held
-",
+        "session a 5\ntry a 5/1 AccessShareLock\ntry a 5/2 AccessShareLock\ntry a 5/3 AccessShareLock\n\
+         try a 5/1 AccessShareLock\n",
+        "a: session 0 database 5\na: granted\na: granted\na: refused 3 local table full\n\
+         a: already held\n",
     ),
     (
         Config {
@@ -545,26 +240,11 @@ a: already held
             max_local: 1024,
             slot_groups: 1,
         },
-        "\
-session a 5
-try a 6/16384 AccessShareLock
-fast a 6/16384 RowShareLock
-try a 0/1262 ShareLock
-hash 0/1262
-count a 495
-list a
-",
-        "\
-a: session 0 database 5
-a: granted
-a: refused 11 not eligible
-a: granted
-hash 1165483503 partition 15 strong 495
-strong 495 0
-table a 0/1262 ShareLock granted
-table a 6/16384 AccessShareLock granted
-rows 2
-",
+        "session a 5\ntry a 6/16384 AccessShareLock\nfast a 6/16384 RowShareLock\n\
+         try a 0/1262 ShareLock\nhash 0/1262\ncount a 495\nlist a\n",
+        "a: session 0 database 5\na: granted\na: refused 11 not eligible\na: granted\n\
+         hash 1165483503 partition 15 strong 495\nstrong 495 0\ntable a 0/1262 ShareLock granted\n\
+         table a 6/16384 AccessShareLock granted\nrows 2\n",
     ),
     (
         Config {
@@ -572,30 +252,14 @@ rows 2
             max_local: 1024,
             slot_groups: 1,
         },
-        "\
-session a 5
-session b 5
-try a 5/1259/16384/0 ExclusiveLock
-try b 5/1259/16384/0 AccessShareLock
-try b 5/1259/16384/0 RowShareLock
-list b
-unlock a 5/1259/16384/0 ExclusiveLock
-try b 5/1259/16384/0 RowShareLock
-unlock a 5/1259/16384/0 ExclusiveLock
-",
-        "\
-a: session 0 database 5
-b: session 1 database 5
-a: granted
-b: granted
-b: refused 1 conflict a ExclusiveLock held
-table a 5/1259/16384/0 ExclusiveLock granted
-table b 5/1259/16384/0 AccessShareLock granted
-rows 2
-a: released
-b: granted
-a: you don't own a lock of type ExclusiveLock
-",
+        "session a 5\nsession b 5\ntry a 5/1259/16384/0 ExclusiveLock\n\
+         try b 5/1259/16384/0 AccessShareLock\ntry b 5/1259/16384/0 RowShareLock\nlist b\n\
+         unlock a 5/1259/16384/0 ExclusiveLock\ntry b 5/1259/16384/0 RowShareLock\n\
+         unlock a 5/1259/16384/0 ExclusiveLock\n",
+        "a: session 0 database 5\nb: session 1 database 5\na: granted\nb: granted\n\
+         b: refused 1 conflict a ExclusiveLock held\ntable a 5/1259/16384/0 ExclusiveLock granted\n\
+         table b 5/1259/16384/0 AccessShareLock granted\nrows 2\na: released\nb: granted\n\
+         a: you don't own a lock of type ExclusiveLock\n",
     ),
     (
         Config {
@@ -603,12 +267,8 @@ a: you don't own a lock of type ExclusiveLock
             max_local: 1024,
             slot_groups: 1,
         },
-        "\
-hash 5/1259/16384/0
-",
-        "\
-hash 1793954687 partition 15 strong 895
-",
+        "hash 5/1259/16384/0\n",
+        "hash 1793954687 partition 15 strong 895\n",
     ),
     (
         Config {
@@ -616,29 +276,12 @@ hash 1793954687 partition 15 strong 895
             max_local: 1024,
             slot_groups: 1,
         },
-        "\
-session a 5
-try a adv/5/0/42/1 ExclusiveLock session
-try a 5/16384 AccessShareLock session
-try a adv/5/0/42/1 ExclusiveLock
-abort a
-list a
-owned a adv/5/0/42/1 ExclusiveLock
-commit a
-close a
-",
-        "\
-a: session 0 database 5
-a: granted
-a: granted
-a: already held
-a: aborted
-table a adv/5/0/42/1 ExclusiveLock granted
-rows 1
-a: transaction 0 session 1
-a: committed
-a: closed
-",
+        "session a 5\ntry a adv/5/0/42/1 ExclusiveLock session\ntry a 5/16384 AccessShareLock session\n\
+         try a adv/5/0/42/1 ExclusiveLock\nabort a\nlist a\nowned a adv/5/0/42/1 ExclusiveLock\n\
+         commit a\nclose a\n",
+        "a: session 0 database 5\na: granted\na: granted\na: already held\na: aborted\n\
+         table a adv/5/0/42/1 ExclusiveLock granted\nrows 1\na: transaction 0 session 1\na: committed\n\
+         a: closed\n",
     ),
     (
         Config {
@@ -646,12 +289,8 @@ a: closed
             max_local: 1024,
             slot_groups: 1,
         },
-        "\
-hash adv/5/0/42/1
-",
-        "\
-hash 144398250 partition 10 strong 938
-",
+        "hash adv/5/0/42/1\n",
+        "hash 144398250 partition 10 strong 938\n",
     ),
     (
         Config {
@@ -659,14 +298,8 @@ hash 144398250 partition 10 strong 938
             max_local: 1024,
             slot_groups: 1,
         },
-        "\
-session a 5
-fast a adv/5/0/42/1 AccessShareLock
-",
-        "\
-a: session 0 database 5
-a: refused 11 not eligible
-",
+        "session a 5\nfast a adv/5/0/42/1 AccessShareLock\n",
+        "a: session 0 database 5\na: refused 11 not eligible\n",
     ),
     (
         Config {
@@ -674,20 +307,9 @@ a: refused 11 not eligible
             max_local: 1024,
             slot_groups: 2,
         },
-        "\
-session a 5
-try a 5/16384 AccessShareLock
-try a 5/16385 AccessShareLock
-list a
-",
-        "\
-a: session 0 database 5
-a: granted
-a: granted
-fast a 15 5/16384 AccessShareLock
-fast a 31 5/16385 AccessShareLock
-rows 2
-",
+        "session a 5\ntry a 5/16384 AccessShareLock\ntry a 5/16385 AccessShareLock\nlist a\n",
+        "a: session 0 database 5\na: granted\na: granted\nfast a 15 5/16384 AccessShareLock\n\
+         fast a 31 5/16385 AccessShareLock\nrows 2\n",
     ),
     (
         Config {
@@ -695,73 +317,27 @@ rows 2
             max_local: 1024,
             slot_groups: 2,
         },
-        "\
-session a 5
-try a 5/16384 AccessShareLock
-try a 5/16386 AccessShareLock
-try a 5/16388 AccessShareLock
-try a 5/16390 AccessShareLock
-try a 5/16392 AccessShareLock
-try a 5/16394 AccessShareLock
-try a 5/16396 AccessShareLock
-try a 5/16398 AccessShareLock
-try a 5/16400 AccessShareLock
-try a 5/16402 AccessShareLock
-try a 5/16404 AccessShareLock
-try a 5/16406 AccessShareLock
-try a 5/16408 AccessShareLock
-try a 5/16410 AccessShareLock
-try a 5/16412 AccessShareLock
-try a 5/16414 AccessShareLock
-try a 5/16416 AccessShareLock
-fast a 5/16418 AccessShareLock
-fast a 5/16385 AccessShareLock
-fast a 5/16387 AccessShareLock
-list a
-",
-        "\
-a: session 0 database 5
-a: granted
-a: granted
-a: granted
-a: granted
-a: granted
-a: granted
-a: granted
-a: granted
-a: granted
-a: granted
-a: granted
-a: granted
-a: granted
-a: granted
-a: granted
-a: granted
-a: granted
-a: refused 9 slots full
-a: granted
-a: granted
-fast a 0 5/16414 AccessShareLock
-fast a 1 5/16412 AccessShareLock
-fast a 2 5/16410 AccessShareLock
-fast a 3 5/16408 AccessShareLock
-fast a 4 5/16406 AccessShareLock
-fast a 5 5/16404 AccessShareLock
-fast a 6 5/16402 AccessShareLock
-fast a 7 5/16400 AccessShareLock
-fast a 8 5/16398 AccessShareLock
-fast a 9 5/16396 AccessShareLock
-fast a 10 5/16394 AccessShareLock
-fast a 11 5/16392 AccessShareLock
-fast a 12 5/16390 AccessShareLock
-fast a 13 5/16388 AccessShareLock
-fast a 14 5/16386 AccessShareLock
-fast a 15 5/16384 AccessShareLock
-fast a 30 5/16387 AccessShareLock
-fast a 31 5/16385 AccessShareLock
-table a 5/16416 AccessShareLock granted
-rows 19
-",
+        "session a 5\ntry a 5/16384 AccessShareLock\ntry a 5/16386 AccessShareLock\n\
+         try a 5/16388 AccessShareLock\ntry a 5/16390 AccessShareLock\ntry a 5/16392 AccessShareLock\n\
+         try a 5/16394 AccessShareLock\ntry a 5/16396 AccessShareLock\ntry a 5/16398 AccessShareLock\n\
+         try a 5/16400 AccessShareLock\ntry a 5/16402 AccessShareLock\ntry a 5/16404 AccessShareLock\n\
+         try a 5/16406 AccessShareLock\ntry a 5/16408 AccessShareLock\ntry a 5/16410 AccessShareLock\n\
+         try a 5/16412 AccessShareLock\ntry a 5/16414 AccessShareLock\ntry a 5/16416 AccessShareLock\n\
+         fast a 5/16418 AccessShareLock\nfast a 5/16385 AccessShareLock\nfast a 5/16387 AccessShareLock\n\
+         list a\n",
+        "a: session 0 database 5\na: granted\na: granted\na: granted\na: granted\na: granted\n\
+         a: granted\na: granted\na: granted\na: granted\na: granted\na: granted\na: granted\na: granted\n\
+         a: granted\na: granted\na: granted\na: granted\na: refused 9 slots full\na: granted\n\
+         a: granted\nfast a 0 5/16414 AccessShareLock\nfast a 1 5/16412 AccessShareLock\n\
+         fast a 2 5/16410 AccessShareLock\nfast a 3 5/16408 AccessShareLock\n\
+         fast a 4 5/16406 AccessShareLock\nfast a 5 5/16404 AccessShareLock\n\
+         fast a 6 5/16402 AccessShareLock\nfast a 7 5/16400 AccessShareLock\n\
+         fast a 8 5/16398 AccessShareLock\nfast a 9 5/16396 AccessShareLock\n\
+         fast a 10 5/16394 AccessShareLock\nfast a 11 5/16392 AccessShareLock\n\
+         fast a 12 5/16390 AccessShareLock\nfast a 13 5/16388 AccessShareLock\n\
+         fast a 14 5/16386 AccessShareLock\nfast a 15 5/16384 AccessShareLock\n\
+         fast a 30 5/16387 AccessShareLock\nfast a 31 5/16385 AccessShareLock\n\
+         table a 5/16416 AccessShareLock granted\nrows 19\n",
     ),
     (
         Config {
@@ -769,38 +345,13 @@ rows 19
             max_local: 1024,
             slot_groups: 1,
         },
-        "\
-session a 5
-try a 5/16384 AccessShareLock
-begin a
-try a 5/16384 AccessShareLock
-try a 5/16385 ShareLock
-begin a
-try a 5/16386 RowShareLock
-subcommit a
-list a
-subabort a
-list a
-subabort a
-",
-        "\
-a: session 0 database 5
-a: granted
-a: level 2
-a: already held
-a: granted
-a: level 3
-a: granted
-a: level 2
-fast a 14 5/16386 RowShareLock
-fast a 15 5/16384 AccessShareLock
-table a 5/16385 ShareLock granted
-rows 3
-a: level 1
-fast a 15 5/16384 AccessShareLock
-rows 1
-a: refused 16 no nested transaction
-",
+        "session a 5\ntry a 5/16384 AccessShareLock\nbegin a\ntry a 5/16384 AccessShareLock\n\
+         try a 5/16385 ShareLock\nbegin a\ntry a 5/16386 RowShareLock\nsubcommit a\nlist a\nsubabort a\n\
+         list a\nsubabort a\n",
+        "a: session 0 database 5\na: granted\na: level 2\na: already held\na: granted\na: level 3\n\
+         a: granted\na: level 2\nfast a 14 5/16386 RowShareLock\nfast a 15 5/16384 AccessShareLock\n\
+         table a 5/16385 ShareLock granted\nrows 3\na: level 1\nfast a 15 5/16384 AccessShareLock\n\
+         rows 1\na: refused 16 no nested transaction\n",
     ),
     (
         Config {
@@ -808,18 +359,9 @@ a: refused 16 no nested transaction
             max_local: 1024,
             slot_groups: 1,
         },
-        "\
-session a 5
-try a 5/16384 AccessShareLock
-begin a
-unlock a 5/16384 AccessShareLock
-",
-        "\
-a: session 0 database 5
-a: granted
-a: level 2
-a: you don't own a lock of type AccessShareLock
-",
+        "session a 5\ntry a 5/16384 AccessShareLock\nbegin a\nunlock a 5/16384 AccessShareLock\n",
+        "a: session 0 database 5\na: granted\na: level 2\n\
+         a: you don't own a lock of type AccessShareLock\n",
     ),
     (
         Config {
@@ -827,44 +369,11 @@ a: you don't own a lock of type AccessShareLock
             max_local: 1024,
             slot_groups: 1,
         },
-        "\
-session a 5
-begin a
-begin a
-begin a
-begin a
-begin a
-begin a
-begin a
-begin a
-begin a
-begin a
-begin a
-begin a
-begin a
-begin a
-begin a
-begin a
-",
-        "\
-a: session 0 database 5
-a: level 2
-a: level 3
-a: level 4
-a: level 5
-a: level 6
-a: level 7
-a: level 8
-a: level 9
-a: level 10
-a: level 11
-a: level 12
-a: level 13
-a: level 14
-a: level 15
-a: level 16
-a: refused 15 too deep
-",
+        "session a 5\nbegin a\nbegin a\nbegin a\nbegin a\nbegin a\nbegin a\nbegin a\nbegin a\nbegin a\n\
+         begin a\nbegin a\nbegin a\nbegin a\nbegin a\nbegin a\nbegin a\n",
+        "a: session 0 database 5\na: level 2\na: level 3\na: level 4\na: level 5\na: level 6\n\
+         a: level 7\na: level 8\na: level 9\na: level 10\na: level 11\na: level 12\na: level 13\n\
+         a: level 14\na: level 15\na: level 16\na: refused 15 too deep\n",
     ),
     (
         Config {
@@ -872,24 +381,10 @@ a: refused 15 too deep
             max_local: 1024,
             slot_groups: 1,
         },
-        "\
-session a 5
-try a 5/1 ShareLock
-try a 5/1 ShareLock
-unlock a 5/1 ShareLock
-waiters a 5/1 ShareLock
-unlock a 5/1 ShareLock
-waiters a 5/1 ShareLock
-",
-        "\
-a: session 0 database 5
-a: granted
-a: already held
-a: still held
-a: waiters no
-a: released
-a: you don't own a lock of type ShareLock
-",
+        "session a 5\ntry a 5/1 ShareLock\ntry a 5/1 ShareLock\nunlock a 5/1 ShareLock\n\
+         waiters a 5/1 ShareLock\nunlock a 5/1 ShareLock\nwaiters a 5/1 ShareLock\n",
+        "a: session 0 database 5\na: granted\na: already held\na: still held\na: waiters no\n\
+         a: released\na: you don't own a lock of type ShareLock\n",
     ),
     (
         Config {
@@ -897,16 +392,8 @@ a: you don't own a lock of type ShareLock
             max_local: 1024,
             slot_groups: 1,
         },
-        "\
-session a 5
-close a
-session a 6
-",
-        "\
-a: session 0 database 5
-a: closed
-a: session 1 database 6
-",
+        "session a 5\nclose a\nsession a 6\n",
+        "a: session 0 database 5\na: closed\na: session 1 database 6\n",
     ),
     (
         Config {
@@ -914,26 +401,10 @@ a: session 1 database 6
             max_local: 1024,
             slot_groups: 1,
         },
-        "\
-session h 5
-session b 5
-session a 5
-try h 5/1 AccessShareLock
-lock b 5/1 AccessExclusiveLock
-lock a 5/1 AccessShareLock
-cancel h b
-",
-        "\
-h: session 0 database 5
-b: session 1 database 5
-a: session 2 database 5
-h: granted
-b: waits
-a: waits
-h: asked b
-b: cancelled
-a: granted after waiting
-",
+        "session h 5\nsession b 5\nsession a 5\ntry h 5/1 AccessShareLock\n\
+         lock b 5/1 AccessExclusiveLock\nlock a 5/1 AccessShareLock\ncancel h b\n",
+        "h: session 0 database 5\nb: session 1 database 5\na: session 2 database 5\nh: granted\n\
+         b: waits\na: waits\nh: asked b\nb: cancelled\na: granted after waiting\n",
     ),
     (
         Config {
@@ -941,26 +412,10 @@ a: granted after waiting
             max_local: 1024,
             slot_groups: 1,
         },
-        "\
-session z 5
-session y 5
-session x 5
-try z 5/1 AccessExclusiveLock
-lock y 5/1 ShareLock
-lock x 5/1 ShareLock
-abort z
-",
-        "\
-z: session 0 database 5
-y: session 1 database 5
-x: session 2 database 5
-z: granted
-y: waits
-x: waits
-z: aborted
-x: granted after waiting
-y: granted after waiting
-",
+        "session z 5\nsession y 5\nsession x 5\ntry z 5/1 AccessExclusiveLock\nlock y 5/1 ShareLock\n\
+         lock x 5/1 ShareLock\nabort z\n",
+        "z: session 0 database 5\ny: session 1 database 5\nx: session 2 database 5\nz: granted\n\
+         y: waits\nx: waits\nz: aborted\nx: granted after waiting\ny: granted after waiting\n",
     ),
     (
         Config {
@@ -968,17 +423,7 @@ y: granted after waiting
             max_local: 1024,
             slot_groups: 1,
         },
-        "\
-session a 5
-session b 5
-try a 5/1 ExclusiveLock
-lock b 5/1 ExclusiveLock
-",
-        "\
-a: session 0 database 5
-b: session 1 database 5
-a: granted
-b: waits
-",
+        "session a 5\nsession b 5\ntry a 5/1 ExclusiveLock\nlock b 5/1 ExclusiveLock\n",
+        "a: session 0 database 5\nb: session 1 database 5\na: granted\nb: waits\n",
     ),
 ];
