@@ -5,6 +5,7 @@ a check judges as many wrong bodies as stand in different functions, none of whi
 Every other function is an empty loop there, and its proof a hole, so that it costs nothing."""
 
 import collections
+import json
 import os
 import re
 import shutil
@@ -28,7 +29,6 @@ NAMES_ALONE = (
 NAMES = re.compile(r"has no field|is not in scope|has no `|was not admitted|was not checked")
 # The last line of a check that came to its end.
 ENDED = re.compile(r"only=\d+ holes=\d+")
-EMPTY = "{ loop {} }"
 # How often a wrong body is judged once more that stood in one check with a wrong body of what it calls.
 MOST_AGAIN = 3
 
@@ -76,23 +76,20 @@ class Verdict:
 
 
 def functions_of_crate(crate):
-    """The functions of a crate as the prover calls them, also where an earlier run proved it and this one says
-    nothing of them: each is a loop that does nothing, and no proof is there."""
+    """The functions of a crate as the prover calls them, where `rt` took over an earlier proof and says nothing of
+    them: by the names of their proofs, which `rattle` writes and which lack those that call themselves. (A kit that
+    writes none has each wrong body tried alone.)"""
     with tempfile.TemporaryDirectory(prefix="wrong-bodies-") as room:
-        for part in ("src", "specs"):
-            if os.path.isdir(f"{crate.folder}/{part}"):
-                shutil.copytree(f"{crate.folder}/{part}", f"{room}/{part}")
-        for file in sources_of(crate.folder):
-            text = text_of(f"{room}/{file}")
-            for own in reversed(functions_of(file, text)):
-                if not is_const(own):
-                    text = text[: own.body[0]] + EMPTY + text[own.body[1] :]
-            write(f"{room}/{file}", text)
         words = [rt.rtlib.RATTLE, "check", *crate.words(["--jobs", "1"], keeps=False)]
-        how = {"cwd": room, "stdin": subprocess.DEVNULL, "stdout": subprocess.PIPE, "stderr": subprocess.STDOUT}
-        said = subprocess.run([*rt.rtlib.guarded(), *words], **how).stdout.decode(errors="replace")
-    found = re.findall(rf"^fn {crate.name}::([\w:]+): ", said, re.M)
-    return [it for it in found if "fn" not in it.split("::")]
+        words += ["--generated", f"{room}/names", "--old-names"]
+        how = {"cwd": crate.folder, "stdin": subprocess.DEVNULL, "capture_output": True}
+        subprocess.run([*rt.rtlib.guarded(), *words], **how)
+        if not os.path.exists(f"{room}/names/names.json"):
+            return []
+        names = json.loads(text_of(f"{room}/names/names.json"))
+    found = [re.fullmatch(rf"Rattle-{crate.name}-proofs\.([\w.]+)\.Lts", it) for it in names]
+    paths = [it[1].split(".") for it in found if it]
+    return ["::".join(it) for it in paths if "fn" not in it]
 
 
 class Judge:
