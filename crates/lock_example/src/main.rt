@@ -2,22 +2,25 @@
 #![tactic(auto)]
 
 mod bank;
-mod connections;
 mod day;
 mod deadlocks;
 mod limits;
 mod monitor;
 mod report;
 mod rush;
+mod server;
 mod shifts;
 mod shut_down;
 mod tellers;
 mod turns;
 mod watch;
 
+use crate::server::{Play, run};
+
 fn main(rt: HostRuntime) -> anyhow::Result<()> {
     turns::show(&rt, rt.alloc())?;
-    report::show(&rt, rt.alloc())?;
-    monitor::show(&rt, rt.alloc())?;
+    let live = run(&rt, rt.alloc(), day::SESSIONS, Play::Bank)?;
+    println!(rt; "bank: closed, with {live} sessions open")?;
+    run(&rt, rt.alloc(), monitor::SESSIONS, Play::Monitor)?;
     Ok(())
 }

@@ -1,35 +1,29 @@
 //! A monitor: a thread that logs who waits, for what and for whom, as `log_lock_waits` does in the server.
 
-ghost use Rattle.std.specs.Prelude.{◌≡◌};
-ghost use Rattle.lock_manager.specs.Crews.{KeepsSeat, SeatsAre};
-
 use crate::bank::{ACCOUNTS, DATABASE};
+use connections::{Connection, ManagerName, Pool, connect, leave};
 use lock_manager::{
-    Blocker, Board, Config, Desk, Manager, ManagerDesk, Mode, OwnSession, OwnWaiting, Owner, Part,
-    QueueRow, Started, TableRow, USUAL_SESSIONS,
+    Blocker, Board, Desk, MOST_SESSIONS, Mode, OwnSession, Owner, Part, QueueRow, Started, TableRow,
 };
-use std::alloc::Global;
 use std::io;
-use std::sync::Wait;
 use std::sync::atomic::{AtomicBool, Ordering};
-use std::thread::{self, Threads, join_mut};
+use std::sync::{Mutex, Wait};
+use std::thread::{self, Threads, join};
 use std::time::{Clock, Duration};
 
 /// How many milliseconds the monitor sleeps between two looks.
 const PAUSE: u64 = 5;
 
 /// The length of a list that has a place for each session number.
-const NUMBERS: usize = USUAL_SESSIONS as usize;
+const NUMBERS: usize = MOST_SESSIONS as usize;
 
-/// Looks again and again at who waits, and logs each wait once, until `is_over`. `monitor` is a session of
-/// the monitor's own.
-pub fn keep_logging<B: Board<Part>, R: Wait + Clock + Print>(
+/// Looks again and again at who waits, and logs each wait once, until `is_over`. `monitor` is a connection
+/// of the monitor's own.
+pub fn keep_logging<B: Board<Part>, M: ManagerName, R: Wait + Clock + Print>(
     rt: &R,
-    monitor: &mut OwnSession<Part, B>,
+    monitor: &mut Connection<B, M>,
     is_over: &AtomicBool,
-) -> anyhow::Result<()>
-    ensures seat { KeepsSeat B.seat monitor.old monitor.new }
-{
+) -> anyhow::Result<()> {
     let mut logged = [false; NUMBERS];
     'looks: for _ in rt.forever() {
         log_waits(rt, monitor, &mut logged)?;
@@ -43,24 +37,21 @@ pub fn keep_logging<B: Board<Part>, R: Wait + Clock + Print>(
 
 /// Logs by `monitor` each session that waits and isn't among `logged`, the ones that waited at the look
 /// before. Puts those that wait now into `logged`.
-fn log_waits<B: Board<Part>, R: Wait + Print>(
+fn log_waits<B: Board<Part>, M: ManagerName, R: Wait + Print>(
     rt: &R,
-    monitor: &mut OwnSession<Part, B>,
+    monitor: &mut Connection<B, M>,
     logged: &mut [bool; NUMBERS],
-) -> anyhow::Result<()>
-    ensures seat { KeepsSeat B.seat monitor.old monitor.new }
-{
-    let listing = monitor.list(rt)?;
+) -> anyhow::Result<()> {
+    let listing = monitor.session.list(rt)?;
     let mut waits = [false; NUMBERS];
     'rows: for row in &listing.table {
         let number = usize::from(row.session.number());
-        if row.granted || number >= NUMBERS {
-            continue 'rows;
+        if !row.granted {
+            if !logged[number] {
+                log_wait(rt, monitor, row)?;
+            }
+            waits[number] = true;
         }
-        if !logged[number] {
-            log_wait(rt, monitor, row)?;
-        }
-        waits[number] = true;
     }
     *logged = waits;
     Ok(())
@@ -68,15 +59,13 @@ fn log_waits<B: Board<Part>, R: Wait + Print>(
 
 /// Logs by `monitor` the wait of `row`: who is in its way, and the queue in which it is. Nobody is in its way
 /// where the wait has ended since the listing.
-fn log_wait<B: Board<Part>, R: Wait + Print>(
+fn log_wait<B: Board<Part>, M: ManagerName, R: Wait + Print>(
     rt: &R,
-    monitor: &mut OwnSession<Part, B>,
+    monitor: &mut Connection<B, M>,
     row: &TableRow,
-) -> anyhow::Result<()>
-    ensures seat { KeepsSeat B.seat monitor.old monitor.new }
-{
-    let blockers = monitor.blockers(rt, row.tag, row.session)?;
-    let queue = monitor.queue(rt, row.tag)?;
+) -> anyhow::Result<()> {
+    let blockers = monitor.session.blockers(rt, row.tag, row.session)?;
+    let queue = monitor.session.queue(rt, row.tag)?;
     if !blockers.is_empty() {
         print_wait(rt, row, blockers.as_slice(), queue.as_slice())?;
     }
@@ -109,121 +98,85 @@ fn print_wait<R: Print>(
 /// write.
 static COMING: [Mode; 3] = [Mode::AccessExclusive, Mode::AccessShare, Mode::RowExclusive];
 
-/// Has sessions wait for one that reads, and a monitor log the waits.
-pub fn show<R: Threads + Wait + Clock + Print + Sync>(rt: &R, alloc: Global) -> anyhow::Result<()> {
-    let config = Config {
-        sessions: 5,
-        max_local: 16,
-        slot_groups: 1,
-    };
-    let (manager, opener) = Manager::new(alloc, config)?;
-    let mut desk = ManagerDesk::new(&manager, opener);
-    let logged = at_the_desk(rt, &mut desk);
-    let opener = desk.into_opener();
-    manager.finish(opener);
-    logged
-}
+/// How many sessions the server has: one that reads, the monitor's, and those that come.
+pub const SESSIONS: u32 = 5;
 
-/// Has sessions of `desk` wait for one that reads, and a monitor log the waits. This function names the board
-/// of the shared table.
-fn at_the_desk<R: Threads + Wait + Clock + Print + Sync>(
-    rt: &R,
-    desk: &mut ManagerDesk<'_>,
-) -> anyhow::Result<()>
-    ensures manager { desk.new.manager.now ≡ desk.old.manager.now }
-    ensures live { desk.new.opener.live ≡ desk.old.opener.live }
-{
-    read_and_watch(rt, desk)
-}
-
-/// Has a session of `desk` read the accounts, and another session watch those that come after the reader.
-fn read_and_watch<
+/// Has a connection of `pool` read the accounts, and a monitor log the waits of those that come after it.
+pub fn show<
     B: Board<Part> + Send,
     D: Desk<OwnSession<Part, B>>,
+    M: ManagerName + Send,
     R: Threads + Wait + Clock + Print + Sync,
->(rt: &R, desk: &mut D) -> anyhow::Result<()>
-    requires seats { SeatsAre B.seat D.seat }
-    ensures manager { D.manager desk.new ≡ D.manager desk.old }
-    ensures live { D.live desk.new ≡ D.live desk.old }
-{
-    let mut reader = desk.open(DATABASE)?;
-    let read = reader.try_lock(rt, ACCOUNTS, Mode::AccessShare, Owner::Transaction);
-    let watched = watch(rt, desk);
-    desk.close(rt, reader);
+>(rt: &R, pool: &Mutex<Pool<B, D, M>>) -> anyhow::Result<()> {
+    let mut reader = connect(rt, pool, DATABASE)?;
+    let read = reader
+        .session
+        .try_lock(rt, ACCOUNTS, Mode::AccessShare, Owner::Transaction);
+    let watched = watch(rt, pool);
+    leave(rt, pool, reader);
     read?;
     watched
 }
 
-/// Opens the monitor's session at `desk`, has it log the sessions that come, and closes it.
+/// Has the monitor's connection come to `pool`, log the waits of those that come after it, and go.
 fn watch<
     B: Board<Part> + Send,
     D: Desk<OwnSession<Part, B>>,
+    M: ManagerName + Send,
     R: Threads + Wait + Clock + Print + Sync,
->(rt: &R, desk: &mut D) -> anyhow::Result<()>
-    requires seats { SeatsAre B.seat D.seat }
-    ensures manager { D.manager desk.new ≡ D.manager desk.old }
-    ensures live { D.live desk.new ≡ D.live desk.old }
-{
-    let mut monitor = desk.open(DATABASE)?;
-    let logged = come(rt, desk, &mut monitor, COMING.as_slice());
-    desk.close(rt, monitor);
+>(rt: &R, pool: &Mutex<Pool<B, D, M>>) -> anyhow::Result<()> {
+    let mut monitor = connect(rt, pool, DATABASE)?;
+    let logged = come(rt, pool, &mut monitor, COMING.as_slice());
+    leave(rt, pool, monitor);
     logged
 }
 
-/// Has a session of `desk` for each of `modes` ask for the accounts, one after the other, and wait. Once all
-/// wait, `monitor` looks.
+/// Has a connection of `pool` for each of `modes` ask for the accounts, one after the other, and wait. Once
+/// all wait, `monitor` looks.
 fn come<
     B: Board<Part> + Send,
     D: Desk<OwnSession<Part, B>>,
+    M: ManagerName + Send,
     R: Threads + Wait + Clock + Print + Sync,
->(rt: &R, desk: &mut D, monitor: &mut OwnSession<Part, B>, modes: &[Mode]) -> anyhow::Result<()>
-    requires seats { SeatsAre B.seat D.seat }
-    ensures manager { D.manager desk.new ≡ D.manager desk.old }
-    ensures live { D.live desk.new ≡ D.live desk.old }
-    ensures seat { KeepsSeat B.seat monitor.old monitor.new }
-{
+>(
+    rt: &R,
+    pool: &Mutex<Pool<B, D, M>>,
+    monitor: &mut Connection<B, M>,
+    modes: &[Mode],
+) -> anyhow::Result<()> {
     let Some((mode, others)) = modes.split_first() else {
         return log_beside(rt, monitor);
     };
-    let session = desk.open(DATABASE)?;
-    match session.start(rt, ACCOUNTS, *mode, Owner::Transaction) {
+    let connection = connect(rt, pool, DATABASE)?;
+    match connection.start(rt, ACCOUNTS, *mode, Owner::Transaction) {
         Started::Queued(waiting) => {
-            let logged = come(rt, desk, monitor, others);
-            let session = leave(rt, waiting);
-            desk.close(rt, session);
+            let logged = come(rt, pool, monitor, others);
+            let (connection, _) = waiting.cancel(rt).into_parts();
+            leave(rt, pool, connection);
             logged
         }
-        Started::Granted(session) | Started::AlreadyHeld(session) => {
-            desk.close(rt, session);
+        Started::Granted(connection) | Started::AlreadyHeld(connection) => {
+            leave(rt, pool, connection);
             Ok(())
         }
-        Started::Refused(session, refusal) => {
-            desk.close(rt, session);
+        Started::Refused(connection, refusal) => {
+            leave(rt, pool, connection);
             Err(refusal.into())
         }
     }
 }
 
-/// Gives the wait `waiting` up, and answers its session.
-fn leave<B: Board<Part>, R: Wait>(rt: &R, waiting: OwnWaiting<Part, B>) -> OwnSession<Part, B>
-    ensures seat { B.seat result.board ≡ B.seat waiting.board }
-{
-    let (session, _) = waiting.cancel(rt).into_parts();
-    session
-}
-
 /// Runs `monitor` in a thread of its own while the server goes on in this one.
-fn log_beside<B: Board<Part> + Send, R: Threads + Wait + Clock + Print + Sync>(
-    rt: &R,
-    monitor: &mut OwnSession<Part, B>,
-) -> anyhow::Result<()>
-    ensures seat { KeepsSeat B.seat monitor.old monitor.new }
-{
+fn log_beside<
+    B: Board<Part> + Send,
+    M: ManagerName + Send,
+    R: Threads + Wait + Clock + Print + Sync,
+>(rt: &R, monitor: &mut Connection<B, M>) -> anyhow::Result<()> {
     let is_over = AtomicBool::new(false);
-    let (logged, ()) = join_mut(
+    let (logged, ()) = join(
         rt,
-        &mut || keep_logging(rt, monitor, &is_over),
-        &mut || go_on(rt, &is_over),
+        || keep_logging(rt, monitor, &is_over),
+        || go_on(rt, &is_over),
     );
     logged
 }

@@ -1,86 +1,124 @@
-//! Connections that come and go: many one after another, and more at a time than there are sessions.
+//! Connections that come and go: many in threads, and more at a time than there are sessions.
 
-ghost use Rattle.std.specs.Prelude.{◌≡◌, ◌≤◌, ◌+◌, length};
-ghost use Rattle.lock_manager.specs.Crews.{AreOf, SeatsAre};
+ghost use Rattle.std.specs.Prelude.{◌≡◌};
 
-use crate::bank::DATABASE;
-use crate::connections::Connection;
-use crate::shifts::{dismiss, hire};
+use crate::bank::{ACCOUNTS, DATABASE};
+use crate::day::SESSIONS;
+use connections::{Connection, ManagerName, Pool, Service, connect, leave, serve};
 use lock_manager::{
-    Board, Desk, OwnSession, Part, Refusal, SessionId, SessionLife, SessionPool, USUAL_SESSIONS,
+    Board, Desk, Mode, OwnSession, Owner, Part, Refusal, SessionId, append_session,
 };
 use std::alloc::Global;
-use std::sync::Wait;
+use std::sync::{Mutex, Wait};
+use std::thread::Threads;
 
-/// How many connections come one after another.
-pub const CONNECTIONS: u32 = 1_000;
+/// In how many threads connections come, and how many come in each, one after another.
+pub const THREADS: u32 = 8;
 
-/// Has many connections come to `desk` one after another, over `pool`, and answers the session of the last
-/// one, with its life.
-pub fn come_and_go<B: Board<Part>, D: Desk<OwnSession<Part, B>>, R: Wait>(
-    rt: &R,
-    desk: &mut D,
-    pool: &mut SessionPool<Part, B>,
-) -> Result<SessionLife, Refusal>
-    requires seats { SeatsAre B.seat D.seat }
-    requires free { AreOf B.seat (D.manager desk.old) pool.old.free }
-    requires few { length pool.old.free ≤ D.live desk.old }
-    ensures free { AreOf B.seat (D.manager desk.old) pool.new.free }
-    ensures manager { D.manager desk.new ≡ D.manager desk.old }
-    ensures all_back { D.live desk.new + length pool.old.free ≡ D.live desk.old + length pool.new.free }
-{
-    'connections: for _ in 1..CONNECTIONS {
-        connect(rt, desk, pool)?;
+const IN_EACH: u32 = 125;
+
+/// How many connections come in all threads together.
+pub const CONNECTIONS: u32 = THREADS * IN_EACH;
+
+/// Has many connections come to `pool` in threads, each of which reads and goes, while others come. Answers
+/// how many were turned away.
+pub fn come_and_go<
+    B: Board<Part> + Send,
+    D: Desk<OwnSession<Part, B>> + Send,
+    M: ManagerName + Send,
+    R: Threads + Wait + Sync,
+>(rt: &R, pool: &Mutex<Pool<B, D, M>>) -> u32 {
+    let mut workers = [IN_EACH; THREADS as usize];
+    serve(rt, pool, DATABASE, workers.as_mut_slice(), &Reads);
+    let mut turned_away = 0u32;
+    for unserved in &workers {
+        turned_away = turned_away.saturating_add(*unserved);
     }
-    connect(rt, desk, pool)
+    turned_away
 }
 
-/// Has more connections come to `desk`, over `pool`, than there are sessions, one after another. Answers how
-/// the one too many is refused, and which session it has once another connection has ended.
-pub fn rush<B: Board<Part>, D: Desk<OwnSession<Part, B>>, R: Wait>(
+/// The service of connections that read the accounts, and leave what they hold to their end.
+struct Reads;
+
+impl Service for Reads {
+    fn call<B: Board<Part>, M: ManagerName, R: Wait>(
+        &self,
+        rt: &R,
+        connection: &mut Connection<B, M>,
+    ) {
+        let _answer = read(rt, connection);
+    }
+}
+
+/// A statement that reads the accounts on behalf of `connection`, or is refused at once.
+fn read<B: Board<Part>, M: ManagerName, R: Wait>(
+    rt: &R,
+    connection: &mut Connection<B, M>,
+) -> Result<(), Refusal> {
+    connection
+        .session
+        .try_lock(rt, ACCOUNTS, Mode::AccessShare, Owner::Transaction)?;
+    Ok(())
+}
+
+/// Has a connection come to `pool`, read and go, and answers the number of the session that it had. What the
+/// connection held is released as its session goes back. A connection that comes when all sessions are lent
+/// is turned away.
+fn come<B: Board<Part>, D: Desk<OwnSession<Part, B>>, M: ManagerName, R: Wait>(
+    rt: &R,
+    pool: &Mutex<Pool<B, D, M>>,
+) -> Result<SessionId, Refusal> {
+    let mut connection = connect(rt, pool, DATABASE)?;
+    let answer = read(rt, &mut connection);
+    let number = connection.session.id();
+    leave(rt, pool, connection);
+    answer?;
+    Ok(number)
+}
+
+/// Has more connections come to `pool` than there are sessions. Answers how the one too many is refused, and
+/// which session it has once another connection has ended.
+pub fn rush<B: Board<Part>, D: Desk<OwnSession<Part, B>>, M: ManagerName, R: Wait>(
     rt: &R,
     alloc: Global,
-    desk: &mut D,
-    pool: &mut SessionPool<Part, B>,
-) -> Result<(Option<Refusal>, SessionId), Refusal>
-    requires seats { SeatsAre B.seat D.seat }
-    requires free { AreOf B.seat (D.manager desk.old) pool.old.free }
-    requires few { length pool.old.free ≤ D.live desk.old }
-    ensures free { AreOf B.seat (D.manager desk.old) pool.new.free }
-    ensures manager { D.manager desk.new ≡ D.manager desk.old }
-    ensures all_back { D.live desk.new + length pool.old.free ≡ D.live desk.old + length pool.new.free }
-{
+    pool: &Mutex<Pool<B, D, M>>,
+) -> Result<(Option<Refusal>, SessionId), Refusal> {
     let mut connections = Vec::new(alloc);
-    let hired = hire(rt, desk, pool, &mut connections, USUAL_SESSIONS);
-    let refused = connect(rt, desk, pool).err();
-    if let Some(session) = connections.pop() {
-        pool.close(rt, desk, session);
+    let hired = hire(rt, pool, &mut connections);
+    let refused = come(rt, pool).err();
+    if let Some(connection) = connections.pop() {
+        leave(rt, pool, connection);
     }
-    let handed_on = connect(rt, desk, pool);
-    dismiss(rt, desk, pool, connections);
+    let handed_on = come(rt, pool);
+    dismiss(rt, pool, connections);
     hired?;
-    Ok((refused, handed_on?.number))
+    Ok((refused, handed_on?))
 }
 
-/// Has a connection come to `desk`, read with a session of `pool` and go, and answers the number of the
-/// session with the life that it had. What the connection held is released as the session goes back to
-/// `pool`. A connection that comes when all sessions are lent is turned away.
-fn connect<B: Board<Part>, D: Desk<OwnSession<Part, B>>, R: Wait>(
+/// Has as many connections come to `pool` as there are sessions, and appends them to `connections`.
+fn hire<B: Board<Part>, D: Desk<OwnSession<Part, B>>, M: ManagerName, R: Wait>(
     rt: &R,
-    desk: &mut D,
-    pool: &mut SessionPool<Part, B>,
-) -> Result<SessionLife, Refusal>
-    requires seats { SeatsAre B.seat D.seat }
-    requires free { AreOf B.seat (D.manager desk.old) pool.old.free }
-    requires few { length pool.old.free ≤ D.live desk.old }
-    ensures free { AreOf B.seat (D.manager desk.old) pool.new.free }
-    ensures manager { D.manager desk.new ≡ D.manager desk.old }
-    ensures all_back { D.live desk.new + length pool.old.free ≡ D.live desk.old + length pool.new.free }
-{
-    let session = pool.open(rt, desk, DATABASE)?;
-    let life = pool.life_of(&session);
-    let (connection, answer) = Connection::over(session).read(rt);
-    pool.close(rt, desk, connection.into_session());
-    answer?;
-    Ok(life)
+    pool: &Mutex<Pool<B, D, M>>,
+    connections: &mut Vec<Connection<B, M>>,
+) -> Result<(), Refusal> {
+    for _ in 0..SESSIONS {
+        let connection = connect(rt, pool, DATABASE)?;
+        if let Err(connection) = append_session(connections, connection) {
+            leave(rt, pool, connection);
+            return Err(Refusal::NoMemory);
+        }
+    }
+    Ok(())
+}
+
+/// Ends all of `connections`, the last one first.
+fn dismiss<B: Board<Part>, D: Desk<OwnSession<Part, B>>, M: ManagerName, R: Wait>(
+    rt: &R,
+    pool: &Mutex<Pool<B, D, M>>,
+    mut connections: Vec<Connection<B, M>>,
+) {
+    'connections: while let Some(connection) = connections.pop() {
+        leave(rt, pool, connection);
+    }
+    connections.destroy_empty();
 }

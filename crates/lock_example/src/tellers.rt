@@ -2,12 +2,12 @@
 //! of the table.
 
 ghost use Rattle.std.specs.Prelude.{◌<◌};
-ghost use Rattle.lock_manager.specs.Crews.{KeepsSeat};
 
 use crate::bank::{ACCOUNTS, Bank, MANY, account};
 use crate::limits::take_in_time;
 use crate::watch::Watch;
-use lock_manager::{Board, Mode, OwnSession, Owner, Part, Refusal, Tag};
+use connections::{Connection, ManagerName};
+use lock_manager::{Board, Mode, Owner, Part, Refusal, Tag};
 use std::sync::Wait;
 use std::thread;
 use std::time::{Clock, Duration};
@@ -42,18 +42,16 @@ impl Transfer {
     }
 }
 
-/// Makes as many transfers with `session` as `transfers` says, one after another, unless the bank shuts down
-/// before.
-pub fn serve<B: Board<Part>, R: Wait>(
+/// Makes as many transfers with `connection` as `transfers` says, one after another, unless the bank shuts
+/// down before.
+pub fn serve<B: Board<Part>, M: ManagerName, R: Wait>(
     rt: &R,
     bank: &Bank,
     watch: &Watch,
-    session: &mut OwnSession<Part, B>,
+    connection: &mut Connection<B, M>,
     transfers: u32,
-)
-    ensures seat { KeepsSeat B.seat session.old session.new }
-{
-    let first = u32::from(session.id().number()) * 5;
+) {
+    let first = u32::from(connection.session.id().number()) * 5;
     'rounds: for round in 0..transfers {
         if watch.is_closed() {
             break;
@@ -62,79 +60,78 @@ pub fn serve<B: Board<Part>, R: Wait>(
             rt,
             bank,
             watch,
-            session,
+            connection,
             Transfer::of(first.wrapping_add(round)),
         );
     }
-    watch.leave();
 }
 
-/// Makes `transfer`, which is tried again where the session was refused a lock, unless the bank shuts down.
-fn transfer_at_last<B: Board<Part>, R: Wait>(
+/// Makes `transfer`, which is tried again where it was refused a lock, unless the bank shuts down.
+fn transfer_at_last<B: Board<Part>, M: ManagerName, R: Wait>(
     rt: &R,
     bank: &Bank,
     watch: &Watch,
-    session: &mut OwnSession<Part, B>,
+    connection: &mut Connection<B, M>,
     transfer: Transfer,
-)
-    ensures seat { KeepsSeat B.seat session.old session.new }
-{
+) {
     'attempts: for _ in 0..ATTEMPTS {
-        if has_transferred(rt, bank, watch, session, transfer) || watch.is_closed() {
+        if has_transferred(rt, bank, watch, connection, transfer) || watch.is_closed() {
             return;
         }
         thread::yield_now();
     }
 }
 
-/// Makes `transfer` in one transaction of `session`, and answers whether it was made: the transaction commits
-/// where all locks were had, otherwise it aborts, and nothing was paid.
-fn has_transferred<B: Board<Part>, R: Wait>(
+/// Makes `transfer` in one transaction of `connection`, and answers whether it was made: the transaction
+/// commits where all locks were had, otherwise it aborts, and nothing was paid.
+fn has_transferred<B: Board<Part>, M: ManagerName, R: Wait>(
     rt: &R,
     bank: &Bank,
     watch: &Watch,
-    session: &mut OwnSession<Part, B>,
+    connection: &mut Connection<B, M>,
     transfer: Transfer,
-) -> bool
-    ensures seat { KeepsSeat B.seat session.old session.new }
-{
-    let locked = lock_for(rt, watch, session, transfer);
+) -> bool {
+    let locked = lock_for(rt, watch, connection, transfer);
     if locked.is_ok() {
         bank.pay(transfer.from, transfer.to, transfer.amount);
     }
-    end(rt, session, locked.is_ok());
+    end(rt, connection, locked.is_ok());
     locked.is_ok()
 }
 
 /// Takes the locks of `transfer`: the table for writing, and both accounts. Two tellers may wait for one
 /// another, each at the account that the other one has. So each wait shows to the watchdog, by `watch`.
-fn lock_for<B: Board<Part>, R: Wait>(
+fn lock_for<B: Board<Part>, M: ManagerName, R: Wait>(
     rt: &R,
     watch: &Watch,
-    session: &mut OwnSession<Part, B>,
+    connection: &mut Connection<B, M>,
     transfer: Transfer,
-) -> Result<(), Refusal>
-    ensures seat { KeepsSeat B.seat session.old session.new }
-{
-    take(rt, watch, session, ACCOUNTS, Mode::RowExclusive)?;
-    take(rt, watch, session, account(transfer.from), Mode::Exclusive)?;
-    take(rt, watch, session, account(transfer.to), Mode::Exclusive)
+) -> Result<(), Refusal> {
+    take(rt, watch, connection, ACCOUNTS, Mode::RowExclusive)?;
+    take(
+        rt,
+        watch,
+        connection,
+        account(transfer.from),
+        Mode::Exclusive,
+    )?;
+    take(rt, watch, connection, account(transfer.to), Mode::Exclusive)
 }
 
-/// Takes `mode` on `tag` for the transaction of `session`, and waits where something is in the way, which
+/// Takes `mode` on `tag` for the transaction of `connection`, and waits where something is in the way, which
 /// `watch` shows.
-fn take<B: Board<Part>, R: Wait>(
+fn take<B: Board<Part>, M: ManagerName, R: Wait>(
     rt: &R,
     watch: &Watch,
-    session: &mut OwnSession<Part, B>,
+    connection: &mut Connection<B, M>,
     tag: Tag,
     mode: Mode,
-) -> Result<(), Refusal>
-    ensures seat { KeepsSeat B.seat session.old session.new }
-{
-    let number = session.id();
+) -> Result<(), Refusal> {
+    let number = connection.session.id();
     watch.turn(number);
-    let answer = session.acquire(rt, tag, mode, Owner::Transaction);
+    let answer = connection
+        .session
+        .acquire(rt, tag, mode, Owner::Transaction);
     watch.turn(number);
     match answer {
         Ok(_) => Ok(()),
@@ -142,59 +139,51 @@ fn take<B: Board<Part>, R: Wait>(
     }
 }
 
-/// Ends the transaction of `session`: the transaction commits where `is_good`, otherwise it aborts.
-fn end<B: Board<Part>, R: Wait>(rt: &R, session: &mut OwnSession<Part, B>, is_good: bool)
-    ensures seat { KeepsSeat B.seat session.old session.new }
-{
+/// Ends the transaction of `connection`: the transaction commits where `is_good`, otherwise it aborts.
+fn end<B: Board<Part>, M: ManagerName, R: Wait>(
+    rt: &R,
+    connection: &mut Connection<B, M>,
+    is_good: bool,
+) {
     if is_good {
-        session.commit(rt);
+        connection.session.commit(rt);
     } else {
-        session.abort(rt);
+        connection.session.abort(rt);
     }
 }
 
-/// Alters the table with `session` as often as `alterations` says, unless the bank shuts down before. Others
-/// that want to read or write wait behind its request meanwhile. So where the table isn't had in time, the
-/// request is given up, the others go on, and the migration tries later.
-pub fn migrate<B: Board<Part>, R: Wait + Clock>(
+/// Alters the table with `connection` as often as `alterations` says, unless the bank shuts down before.
+/// Others that want to read or write wait behind its request meanwhile. So where the table isn't had in time,
+/// the request is given up, the others go on, and the migration tries later.
+pub fn migrate<B: Board<Part>, M: ManagerName, R: Wait + Clock>(
     rt: &R,
     bank: &Bank,
     watch: &Watch,
-    session: OwnSession<Part, B>,
+    connection: &mut Connection<B, M>,
     alterations: u32,
-) -> OwnSession<Part, B>
-    ensures seat { KeepsSeat B.seat session result }
-{
-    let mut session = session;
+) {
     let mut left = alterations;
     'attempts: for _ in rt.forever() {
         if left == 0 || watch.is_closed() {
-            break;
+            return;
         }
-        let (altered, is_done) = try_to_alter(rt, bank, session);
-        session = altered;
-        if is_done {
+        if has_altered(rt, bank, connection) {
             left -= 1;
         }
     }
-    watch.leave();
-    session
 }
 
-/// Alters the table with `session` if the table is had in time, and answers whether it was.
-fn try_to_alter<B: Board<Part>, R: Wait + Clock>(
+/// Alters the table with `connection` if the table is had in time, and answers whether it was.
+fn has_altered<B: Board<Part>, M: ManagerName, R: Wait + Clock>(
     rt: &R,
     bank: &Bank,
-    session: OwnSession<Part, B>,
-) -> (OwnSession<Part, B>, bool)
-    ensures seat { KeepsSeat B.seat session result.0 }
-{
-    let mut session = session;
+    connection: &mut Connection<B, M>,
+) -> bool {
     let patience = Duration::from_millis(PATIENCE);
-    let answer = take_in_time(rt, &mut session, ACCOUNTS, Mode::AccessExclusive, patience);
+    let answer = take_in_time(rt, connection, ACCOUNTS, Mode::AccessExclusive, patience);
     if answer.is_ok() {
         bank.rewrite();
     }
-    end(rt, &mut session, answer.is_ok());
-    (session, answer.is_ok())
+    end(rt, connection, answer.is_ok());
+    answer.is_ok()
 }

@@ -1,9 +1,7 @@
 //! Two threads of a server share a lock manager: one reads and writes a table, which the other wants to
 //! alter.
 
-ghost use Rattle.lock_manager.specs.Crews.{KeepsManager};
-
-use lock_manager::{Acquired, Config, Final, Manager, Mode, Owner, Refusal, Session, Tag};
+use lock_manager::{Acquired, Config, Final, Manager, Mode, Owner, Refusal, Tag};
 use std::alloc::Global;
 use std::io;
 use std::sync::Wait;
@@ -19,6 +17,9 @@ const BRANCHES: Tag = Tag::Relation {
     database: 5,
     relation: 16_385,
 };
+
+/// For whom both ask: for their transactions, whose locks go as these end.
+const OWNER: Owner = Owner::Transaction;
 
 /// What a request for a lock is answered.
 type Answer = Result<Acquired, Refusal>;
@@ -82,19 +83,22 @@ fn tell<R: Threads + Wait + Sync>(rt: &R, alloc: Global) -> Result<Outcome, Refu
     // run.
     let (read, index) = join_mut(
         rt,
-        &mut || ask(rt, &mut worker, ACCOUNTS, Mode::AccessShare),
-        &mut || ask(rt, &mut migration, BRANCHES, Mode::Share),
+        &mut || worker.try_lock(rt, ACCOUNTS, Mode::AccessShare, OWNER),
+        &mut || migration.try_lock(rt, BRANCHES, Mode::Share, OWNER),
     );
     let (write, alter) = join_mut(
         rt,
-        &mut || ask(rt, &mut worker, ACCOUNTS, Mode::RowExclusive),
-        &mut || ask(rt, &mut migration, ACCOUNTS, Mode::AccessExclusive),
+        &mut || worker.try_lock(rt, ACCOUNTS, Mode::RowExclusive, OWNER),
+        &mut || migration.try_lock(rt, ACCOUNTS, Mode::AccessExclusive, OWNER),
     );
     // Once both have committed the table is free. Until the worker has, the migration waits in its thread.
     let ((), alter_again) = join_mut(
         rt,
-        &mut || commit(rt, &mut worker),
-        &mut || commit_and_wait(rt, &mut migration, ACCOUNTS, Mode::AccessExclusive),
+        &mut || worker.commit(rt),
+        &mut || {
+            migration.commit(rt);
+            migration.acquire(rt, ACCOUNTS, Mode::AccessExclusive, OWNER)
+        },
     );
 
     // What a session still has is released as it is closed.
@@ -108,30 +112,6 @@ fn tell<R: Threads + Wait + Sync>(rt: &R, alloc: Global) -> Result<Outcome, Refu
         alter_again,
         stood: manager.finish(opener),
     })
-}
-
-/// Asks for `table` in `mode` on behalf of the transaction of `session`. The session stays one of the same
-/// manager, as its close wants.
-fn ask<R: Wait>(rt: &R, session: &mut Session<'_>, table: Tag, mode: Mode) -> Answer
-    ensures same_manager { KeepsManager session.old session.new }
-{
-    session.try_lock(rt, table, mode, Owner::Transaction)
-}
-
-/// Ends the transaction of `session`.
-fn commit<R: Wait>(rt: &R, session: &mut Session<'_>)
-    ensures same_manager { KeepsManager session.old session.new }
-{
-    session.commit(rt);
-}
-
-/// Ends the transaction of `session`, and asks for `table` in `mode` on behalf of the next one. Where
-/// somebody is in the way the session waits.
-fn commit_and_wait<R: Wait>(rt: &R, session: &mut Session<'_>, table: Tag, mode: Mode) -> Answer
-    ensures same_manager { KeepsManager session.old session.new }
-{
-    commit(rt, session);
-    session.acquire(rt, table, mode, Owner::Transaction)
 }
 
 /// Prints what `request` was answered. A refusal says who is in the way.

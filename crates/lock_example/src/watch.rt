@@ -1,13 +1,13 @@
 //! The watchdog, which ends deadlocks, and asks those to cancel who wait too long.
 
 ghost use Rattle.std.specs.Prelude.{◌<◌};
-ghost use Rattle.lock_manager.specs.Crews.{KeepsSeat};
 
-use crate::deadlocks::break_circle;
+use crate::deadlocks::victim_of;
 use crate::shut_down::shut_down;
-use lock_manager::{Board, OwnSession, Part, SessionId, USUAL_SESSIONS};
-use std::sync::Wait;
+use connections::{Connection, Look, ManagerName, Pool, cancel, look_at_waits};
+use lock_manager::{Board, Desk, MOST_SESSIONS, OwnSession, Part, SessionId};
 use std::sync::atomic::{AtomicBool, AtomicU64, Ordering};
+use std::sync::{Mutex, Wait};
 use std::thread;
 use std::time::{Clock, Duration};
 
@@ -16,7 +16,7 @@ use std::time::{Clock, Duration};
 const PAUSE: u64 = 2;
 
 /// The length of a list that has a place for each session number.
-const NUMBERS: usize = USUAL_SESSIONS as usize;
+const NUMBERS: usize = MOST_SESSIONS as usize;
 
 /// What the threads of a day show the watchdog.
 #[derive(Drop)]
@@ -86,7 +86,7 @@ impl Watch {
     /// Whether the session numbered `place` is in a wait in which it was at the look before too, by `seen`,
     /// which keeps what is seen now for the next look.
     fn waits_too_long(&self, place: usize, seen: &mut [u64; NUMBERS]) -> bool
-        requires { place < 64 }
+        requires { place < 1024 }
     {
         let now = self.waits[place].load(Ordering::SeqCst);
         let is_long = now % 2 == 1 && now == seen[place];
@@ -95,17 +95,16 @@ impl Watch {
     }
 }
 
-/// Looks again and again at who waits, with `session`, until no thread of `watch` works any more. Asks those
-/// who wait in a circle, or too long, to cancel. After as many looks as `closes_after` says, if it says a
-/// number, shuts the bank down.
-pub fn keep_watch<B: Board<Part>, R: Wait + Clock>(
+/// Looks again and again at who waits, with `connection`, until no thread of `watch` works any more. Asks
+/// those who wait in a circle, or too long, to cancel. After as many looks as `closes_after` says, if it says
+/// a number, shuts the bank down.
+pub fn keep_watch<B: Board<Part>, D: Desk<OwnSession<Part, B>>, M: ManagerName, R: Wait + Clock>(
     rt: &R,
+    pool: &Mutex<Pool<B, D, M>>,
     watch: &Watch,
     closes_after: Option<u32>,
-    session: &mut OwnSession<Part, B>,
-)
-    ensures seat { KeepsSeat B.seat session.old session.new }
-{
+    connection: &mut Connection<B, M>,
+) {
     let mut seen = [0; NUMBERS];
     let mut looks = 0u32;
     'looks: for _ in rt.forever() {
@@ -113,33 +112,46 @@ pub fn keep_watch<B: Board<Part>, R: Wait + Clock>(
             return;
         }
         if closes_after == Some(looks) {
-            shut_down(rt, watch, session);
+            shut_down(rt, watch, connection);
             return;
         }
-        break_circle(rt, session);
-        look(watch, session, &mut seen);
+        // Without memory for a look nobody is asked.
+        if let Ok(look) = look_at_waits(rt, pool, connection) {
+            break_circle(rt, pool, connection, &look);
+            end_long_waits(rt, pool, watch, connection, &look, &mut seen);
+        }
         looks = looks.saturating_add(1);
         thread::sleep(rt, Duration::from_millis(PAUSE));
     }
 }
 
-/// Asks those to cancel who have waited since the look before, by `seen`.
-fn look<B: Board<Part>>(watch: &Watch, session: &mut OwnSession<Part, B>, seen: &mut [u64; NUMBERS])
-    ensures seat { KeepsSeat B.seat session.old session.new }
-{
-    'places: for place in 0..NUMBERS {
-        if watch.waits_too_long(place, seen) {
-            ask(session, place as u16);
-        }
+/// Asks one session of a circle of waits to cancel, if `look` shows such a circle.
+fn break_circle<B: Board<Part>, D: Desk<OwnSession<Part, B>>, M: ManagerName, R: Wait>(
+    rt: &R,
+    pool: &Mutex<Pool<B, D, M>>,
+    connection: &mut Connection<B, M>,
+    look: &Look,
+) {
+    if let Some(victim) = victim_of(look.waits.as_slice()) {
+        let _asked = cancel(rt, pool, connection, look.life_of(victim));
     }
 }
 
-/// Asks the session numbered `number` to cancel its wait. `Asked::Waiting` says that it waited as it was
-/// asked, and no more: where it is granted before it has cancelled, it has the lock.
-fn ask<B: Board<Part>>(session: &mut OwnSession<Part, B>, number: u16)
-    ensures seat { KeepsSeat B.seat session.old session.new }
-{
-    if let Some(other) = SessionId::new(number) {
-        let _asked = session.ask_cancel(other);
+/// Asks those to cancel who have waited since the look before, by `seen`. `Asked::Waiting` says that a
+/// session waited as it was asked, and no more: where it is granted before it has cancelled, it has the lock.
+fn end_long_waits<B: Board<Part>, D: Desk<OwnSession<Part, B>>, M: ManagerName, R: Wait>(
+    rt: &R,
+    pool: &Mutex<Pool<B, D, M>>,
+    watch: &Watch,
+    connection: &mut Connection<B, M>,
+    look: &Look,
+    seen: &mut [u64; NUMBERS],
+) {
+    'numbers: for number in 0..MOST_SESSIONS as u16 {
+        if watch.waits_too_long(usize::from(number), seen) {
+            if let Some(session) = SessionId::new(number) {
+                let _asked = cancel(rt, pool, connection, look.life_of(session));
+            }
+        }
     }
 }

@@ -1,0 +1,3 @@
+pub mod Managers
+pub mod Shown
+pub mod Waits

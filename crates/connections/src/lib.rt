@@ -1,0 +1,16 @@
+//! Connections: sessions that are one manager's by their type, and a pool of them that the threads of a
+//! server share, whose connections open and close while others work.
+#![tactic(auto)]
+
+mod audits;
+mod connection;
+mod names;
+mod pool;
+mod server;
+mod waiting;
+
+pub use connection::Connection;
+pub use names::ManagerName;
+pub use pool::{Pool, nobody};
+pub use server::{Look, Service, cancel, connect, leave, look_at_waits, serve};
+pub use waiting::WaitingConnection;

@@ -1,5 +1,0 @@
-use Rattle.std.proofs.Common.{◌≡◌}
-use Rattle.lock_example.proofs.tellers.migrate.Given as goal
-
-abbrev pub invariant-attempts : goal.invariant-attempts
-invariant-attempts g l = g.B.Board.seat l.session.board ≡ g.B.Board.seat l.fn.session.board
