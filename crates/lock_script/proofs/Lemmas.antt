@@ -12,3 +12,5 @@ pub mod Objects
 pub mod Kept
 pub mod Words
 pub mod Lending
+pub mod Ready
+pub mod Rows

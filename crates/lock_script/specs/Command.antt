@@ -22,7 +22,8 @@ NamesFree objects (command.Name name tag) = (tag_called objects name.bytes ≡ N
 NamesFree objects _ = Unit {0}
 
 module _ {S W : Type 0} where
-  -- The session that a command addresses stands among those that don't wait; the one that a cancel asks is open.
+  -- The session that a command addresses stands among those that don't wait; the one that a cancel asks is
+  -- open.
   abbrev pub Addresses : OpenSessions S W → Command → Type 0
   Addresses sessions (Session name database) = Unit {0}
   Addresses sessions (command.Name name tag) = Unit {0}

@@ -24,8 +24,8 @@ use Rattle.lock_script.specs.declared.faults.Defect.TheVariants.{UnknownCommand,
 abbrev pub lock_words : List WordKind
 lock_words = CallerName ∷ TagWord ∷ ModeName ∷ OwnerWord ∷ []
 
--- The commands, each with the words behind it. First those that name an object, open or close a session, and begin or
--- end a transaction's levels.
+-- The commands, each with the words behind it. First those that name an object, open or close a session, and
+-- begin or end a transaction's levels.
 abbrev pub session_commands : List (List ℕ × List WordKind)
 session_commands =
     (codes "session", FreeName ∷ Number ∷ [])

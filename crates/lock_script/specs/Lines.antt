@@ -26,8 +26,8 @@ after_line unread = after_first is_line_feed unread
 abbrev pub text_of : List ℕ → List ℕ
 text_of line = strip_carriage_return line
 
--- The next line of the bytes that are left, where this number of lines were read before: none at the end of the input,
--- what is wrong with it by the first check that fails, or its text.
+-- The next line of the bytes that are left, where this number of lines were read before: none at the end of
+-- the input, what is wrong with it by the first check that fails, or its text.
 abbrev pub reading_of : ℕ → List ℕ → Result (Option (List ℕ)) Defect
 reading_of number [] = Ok None
 reading_of number (b ∷ bytes) =

@@ -63,7 +63,8 @@ advisory_of_numbers (Some database ∷ Some key1 ∷ Some key2 ∷ Some sub ∷ 
     if nat_le sub 65535 then Some (Advisory sub database key1 key2) else None
 advisory_of_numbers _ = None
 
--- the tag that is written by these parts: behind the word `adv` an advisory lock's, else a relation's or an object's
+-- the tag that is written by these parts: behind the word `adv` an advisory lock's, else a relation's or an
+-- object's
 abbrev pub tag_of_parts : List (List ℕ) → Option Tag
 tag_of_parts [] = None
 tag_of_parts (first ∷ others) =

@@ -9,15 +9,15 @@ use crate::faults::Fault;
 use std::io::{ErrorKind, Read};
 use std::marker::Model;
 
-/// How many reads are made of a script at most. The longest script that is allowed needs fewer, even where each read
-/// gives one byte.
+/// How many reads are made of a script at most. The longest script that is allowed needs fewer, even where
+/// each read gives one byte.
 const MOST_READS: u32 = 1_100_000_000;
 
 /// How many bytes a read of the script asks for.
 const CAPACITY: usize = 4096;
 
-/// The bytes that a reader gives, through a buffer. Contracts see the bytes that are left, where the reader's bytes
-/// are known, how many of those left are buffered, and how often the reader was read from.
+/// The bytes that a reader gives, through a buffer. Contracts see the bytes that are left, where the reader's
+/// bytes are known, how many of those left are buffered, and how often the reader was read from.
 #[derive(Drop)]
 pub struct ByteSource<R: Read> {
     reader: R,
@@ -59,7 +59,8 @@ impl<R: Read> ByteSource<R> {
         }
     }
 
-    /// The next byte, or `None` at the end of the input. The reader is read from only where nothing is buffered.
+    /// The next byte, or `None` at the end of the input. The reader is read from only where nothing is
+    /// buffered.
     pub fn next_byte(&mut self) -> Result<Option<u8>, Fault>
         ensures bytes { IfOk result (λ byte. Consumes self.old.left self.new.left (option_to_list byte)) }
         ensures end { result ≡ Ok None → IsAtEnd self.new.left }
@@ -96,8 +97,8 @@ impl<R: Read> ByteSource<R> {
     }
 }
 
-/// Reads from `reader` into `buffer` once, with another attempt where a signal interrupts the read, and answers how
-/// many bytes were read. Counts each attempt in `reads`.
+/// Reads from `reader` into `buffer` once, with another attempt where a signal interrupts the read, and
+/// answers how many bytes were read. Counts each attempt in `reads`.
 fn read_some<R: Read>(reader: &mut R, buffer: &mut [u8], reads: &mut u32) -> Result<usize, Fault>
     requires { reads.old ≤ most_reads }
     ensures counted { OnOk result (reads.old < reads.new) }

@@ -97,9 +97,9 @@ pub fn parse<S, W>(
     Ok(Some(command))
 }
 
-/// The command of the first word `verb` and of `words`, which come after `verb`. This function itself reads the
-/// commands that name an object, open or close a session, and begin or end a transaction's levels; for others it
-/// calls `parse_lock_command`.
+/// The command of the first word `verb` and of `words`, which come after `verb`. This function itself reads
+/// the commands that name an object, open or close a session, and begin or end a transaction's levels; for
+/// others it calls `parse_lock_command`.
 fn parse_command<S, W>(
     verb: &str,
     words: &[&str],
@@ -129,8 +129,9 @@ fn parse_command<S, W>(
     }
 }
 
-/// The command of the first word `verb` and of `words`, which come after `verb`. This function itself reads the
-/// commands that ask for a lock, give one back, or end a wait for one; for others it calls `parse_look_command`.
+/// The command of the first word `verb` and of `words`, which come after `verb`. This function itself reads
+/// the commands that ask for a lock, give one back, or end a wait for one; for others it calls
+/// `parse_look_command`.
 fn parse_lock_command<S, W>(
     verb: &str,
     words: &[&str],
@@ -199,8 +200,8 @@ fn parse_look_command<S, W>(
     }
 }
 
-/// Reads the `words` after `try`, `fast`, `lock` or `unlock`, by `sessions` and `objects`: which lock, and for which
-/// owner. Without a fourth word the owner is the transaction.
+/// Reads the `words` after `try`, `fast`, `lock` or `unlock`, by `sessions` and `objects`: which lock, and
+/// for which owner. Without a fourth word the owner is the transaction.
 fn parse_owned_target<S, W>(
     words: &[&str],
     sessions: &OpenSessions<S, W>,
@@ -224,8 +225,8 @@ fn parse_owned_target<S, W>(
     }
 }
 
-/// Reads the `words` after `owned` or `waiters`, by `sessions` and `objects`: which lock the line is about, and of
-/// which session.
+/// Reads the `words` after `owned` or `waiters`, by `sessions` and `objects`: which lock the line is about,
+/// and of which session.
 fn parse_lone_target<S, W>(
     words: &[&str],
     sessions: &OpenSessions<S, W>,
@@ -241,7 +242,8 @@ fn parse_lone_target<S, W>(
     parse_target(name, tag, mode, sessions, objects)
 }
 
-/// Which lock the words `name`, `tag` and `mode` are about, and of which session, by `sessions` and `objects`.
+/// Which lock the words `name`, `tag` and `mode` are about, and of which session, by `sessions` and
+/// `objects`.
 fn parse_target<S, W>(
     name: &str,
     tag: &str,
@@ -283,7 +285,8 @@ fn parse_hash(words: &[&str], objects: &ObjectNames) -> Result<Tag, Defect>
     parse_object(tag, objects).ok_or(Defect::BadObject)
 }
 
-/// Reads the `words` of a `queue` line: which of `sessions` looks, and at the wait queue of which object, by `objects`.
+/// Reads the `words` of a `queue` line: which of `sessions` looks, and at the wait queue of which object, by
+/// `objects`.
 fn parse_queue<S, W>(
     words: &[&str],
     sessions: &OpenSessions<S, W>,
@@ -302,8 +305,8 @@ fn parse_queue<S, W>(
     Ok((caller, object))
 }
 
-/// Reads the `words` of a `blockers` line: which of `sessions` looks, in whose way others are, and on which object, by
-/// `objects`.
+/// Reads the `words` of a `blockers` line: which of `sessions` looks, in whose way others are, and on which
+/// object, by `objects`.
 fn parse_blockers<S, W>(
     words: &[&str],
     sessions: &OpenSessions<S, W>,
@@ -338,8 +341,8 @@ fn parse_count<S, W>(words: &[&str], sessions: &OpenSessions<S, W>) -> Result<(C
     Ok((caller, index))
 }
 
-/// Reads the `words` of a `cancel` line: which of `sessions` asks, and the wait of which one is to be cancelled. The
-/// latter is found also where it waits.
+/// Reads the `words` of a `cancel` line: which of `sessions` asks, and the wait of which one is to be
+/// cancelled. The latter is found also where it waits.
 fn parse_cancel<S, W>(
     words: &[&str],
     sessions: &OpenSessions<S, W>,

@@ -1,5 +1,6 @@
 //! The commands of the language: a row for each, which the parse, its errors and every help go by.
-ghost use Rattle.std.specs.Prelude.{◌≡◌, Some, is_some, length, map, codes, IfSome};
+ghost use Rattle.std.specs.Prelude.{◌≡◌, Some, None, is_some, length, map, codes, true, IfSome, MatchOption};
+ghost use Rattle.std.specs.List.{list_all};
 ghost use Rattle.std.specs.Str.{bytes_eq};
 ghost use Rattle.lock_script.specs.Defects.{commands, look_commands, words_behind};
 ghost use Rattle.lock_script.specs.Rows.{kinds_in, looks_in};
@@ -266,6 +267,7 @@ pub fn command_rows() -> &'static [CommandRow]
     ensures words { map (λ command. kinds_in command.0 result.now) commands ≡ map (λ command. Some command.1) commands }
     ensures looks { map (λ command. looks_in command.0 result.now) commands
         ≡ map (λ command. Some (is_some (words_behind command.0 look_commands))) commands }
+    ensures none_else { list_all (λ row. is_some (words_behind row.verb.now commands)) result.now ≡ true }
     ensures no_more { length result.now ≡ length commands }
     ensures only_lock { map (λ row. row.may_wait) result.now ≡ map (λ row. bytes_eq row.verb.now (codes "lock")) result.now }
 {
@@ -274,9 +276,11 @@ pub fn command_rows() -> &'static [CommandRow]
 
 /// The row of the command whose lines begin with `verb`, if there is one.
 pub fn command_row(verb: &str) -> Option<&'static CommandRow>
-    ensures { IfSome result (λ row. row.now.verb.now ≡ verb.now) }
+    ensures verb { IfSome result (λ row. row.now.verb.now ≡ verb.now) }
+    ensures kinds { MatchOption result (words_behind verb.now commands ≡ None)
+        (λ row. words_behind verb.now commands ≡ Some row.now.kinds.now) }
 {
-    for row in command_rows() {
+    'rows: for row in command_rows() {
         if row.verb == verb {
             return Some(row);
         }
@@ -285,8 +289,8 @@ pub fn command_row(verb: &str) -> Option<&'static CommandRow>
 }
 
 impl CommandRow {
-    /// The place of the command's first word of `kind`, counted from 1 after the verb, if the command has such a
-    /// word.
+    /// The place of the command's first word of `kind`, counted from 1 after the verb, if the command has
+    /// such a word.
     pub fn place_of(&self, kind: WordKind) -> Option<usize> {
         let place = self.kinds.iter().position(|other| *other == kind)?;
         Some(place + 1)

@@ -1,5 +1,6 @@
-//! The language of scripts of lock calls: the lines of a reader, their words, the open sessions and the objects by their names, and the command that
-//! a line is. It knows nothing of a lock manager: what a session is, is left to the program that runs scripts.
+//! The language of scripts of lock calls: the lines of a reader, their words, the open sessions and the
+//! objects by their names, and the command that a line is. It knows nothing of a lock manager: what a session
+//! is, is left to the program that runs scripts.
 #![tactic(auto)]
 
 mod bytes;

@@ -102,8 +102,8 @@ impl<R: Read> LineReader<R> {
         }
     }
 
-    /// Whether the next line can be had without a read from the reader: it is buffered with its line feed, it is
-    /// text, and it is neither too long nor one line too many.
+    /// Whether the next line can be had without a read from the reader: it is buffered with its line feed, it
+    /// is text, and it is neither too long nor one line too many.
     pub fn has_line(&self) -> bool {
         self.number < MOST_LINES && self.source.has_line(MOST_BYTES)
     }
@@ -120,8 +120,8 @@ fn bad_line(before: u32, what: Defect) -> Fault
     }
 }
 
-/// The line of `source` that begins with the byte `first`, without its line feed, or `None` where the line is too
-/// long. `first` was read from `source` already.
+/// The line of `source` that begins with the byte `first`, without its line feed, or `None` where the line is
+/// too long. `first` was read from `source` already.
 fn gather<R: Read>(
     source: &mut ByteSource<R>,
     first: u8,
@@ -150,8 +150,8 @@ fn gather<R: Read>(
     }
 }
 
-/// The line whose text is `bytes` without a carriage return at the end, or `None` where one of these bytes is neither
-/// a tab nor a printable ASCII character.
+/// The line whose text is `bytes` without a carriage return at the end, or `None` where one of these bytes is
+/// neither a tab nor a printable ASCII character.
 fn text(mut bytes: ArrayVec<u8, MOST_BYTES>) -> Option<Line>
     ensures { MatchOption result (list_all is_text_byte (text_of bytes.items) ≡ false)
         (λ line. (line ≡ text_of bytes.items) × (list_all is_text_byte (text_of bytes.items) ≡ true)) }

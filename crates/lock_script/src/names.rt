@@ -14,8 +14,8 @@ pub(crate) const USUAL_SESSIONS: usize = modes_core::USUAL_SESSIONS as usize;
 /// The name of a session, of up to 16 bytes.
 pub type Name = ArrayString<16>;
 
-/// The names of the sessions that were opened, by the sessions' numbers. Where a number was given out again, the name
-/// is that of the last session with the number.
+/// The names of the sessions that were opened, by the sessions' numbers. Where a number was given out again,
+/// the name is that of the last session with the number.
 #[derive(Drop)]
 pub struct SessionNames {
     issued: ArrayVec<Name, USUAL_SESSIONS>,
@@ -50,7 +50,8 @@ impl SessionNames {
             .copied()
     }
 
-    /// Keeps `name` as the name of the session with the next number. The name of a closed session is kept, too.
+    /// Keeps `name` as the name of the session with the next number. The name of a closed session is kept,
+    /// too.
     pub fn push(&mut self, name: Name)
         requires { length self.old < usual_sessions }
         ensures { self.new ≡ self.old ++ name ∷ [] }
@@ -58,8 +59,8 @@ impl SessionNames {
         self.issued.push(name);
     }
 
-    /// Keeps `name` as the name of `session`, which was opened just now. The number of `session` is the next one, or
-    /// was given out again: then the name of the earlier session with the number is lost.
+    /// Keeps `name` as the name of `session`, which was opened just now. The number of `session` is the next
+    /// one, or was given out again: then the name of the earlier session with the number is lost.
     pub fn put(&mut self, session: SessionId, name: Name)
         requires next_or_again { session ≤ length self.old }
         requires few { session < usual_sessions }
@@ -75,8 +76,8 @@ impl SessionNames {
     }
 }
 
-/// The names that the answers to a script use: those of the sessions that were opened, and those that the script gave
-/// to objects.
+/// The names that the answers to a script use: those of the sessions that were opened, and those that the
+/// script gave to objects.
 #[derive(Drop)]
 pub struct Names {
     pub sessions: SessionNames,

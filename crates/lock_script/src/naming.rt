@@ -12,7 +12,8 @@ use crate::sessions::OpenSessions;
 use crate::words::{parse_name, parse_number};
 use modes_core::Tag;
 
-/// Reads the `words` of a `session` line: a name that no session of `sessions` has, and the number of a database.
+/// Reads the `words` of a `session` line: a name that no session of `sessions` has, and the number of a
+/// database.
 pub fn parse_session<S, W>(
     words: &[&str],
     sessions: &OpenSessions<S, W>,

@@ -19,8 +19,8 @@ pub struct NamedObject {
     pub tag: Tag,
 }
 
-/// The objects that have names, in the order in which they were named. No two objects have one name, and no object
-/// has two names. Contracts see the objects as a list.
+/// The objects that have names, in the order in which they were named. No two objects have one name, and no
+/// object has two names. Contracts see the objects as a list.
 #[derive(Drop)]
 pub struct ObjectNames {
     objects: Vec<NamedObject>,
@@ -138,8 +138,8 @@ fn is_name_byte(byte: u8) -> bool
     begins_name(byte) || byte.is_ascii_digit() || byte == b'$' || byte == b'.'
 }
 
-/// The object that `word` means: the lock tag that `word` is, written in numbers, or otherwise the one of `objects`
-/// that goes by `word`.
+/// The object that `word` means: the lock tag that `word` is, written in numbers, or otherwise the one of
+/// `objects` that goes by `word`.
 pub fn parse_object(word: &str, objects: &ObjectNames) -> Option<Tag>
     ensures { result ≡ tag_in objects.now word.now }
 {

@@ -76,7 +76,8 @@ impl<S> ByName<S> {
         &self.sessions[place]
     }
 
-    /// The session at `place`, for a call that changes it. The session's name and the other sessions don't change.
+    /// The session at `place`, for a call that changes it. The session's name and the other sessions don't
+    /// change.
     pub fn session_mut(&mut self, place: usize) -> &mut S
         requires { place < length self.old }
         ensures* writes_back { sem 𝓛 (LendsSession S.row self.entry place result) }
@@ -189,7 +190,8 @@ pub struct Opened {
 impl<S, W> OpenSessions<S, W> {
     ghost use Rattle.lock_script.specs.Sessions.{IsAt, IsUnknown};
 
-    /// No open session. Takes memory by `alloc` for all that may be opened, and is refused only where memory ran out.
+    /// No open session. Takes memory by `alloc` for all that may be opened, and is refused only where memory
+    /// ran out.
     pub fn new(alloc: Global) -> Result<Self, AllocError>
         ensures resting { IfOk result (λ sessions. sessions.resting ≡ []) }
         ensures waiting { IfOk result (λ sessions. sessions.waiting ≡ []) }

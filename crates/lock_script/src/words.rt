@@ -109,8 +109,8 @@ fn has_digits(word: &str) -> bool
     word.as_bytes().iter().all(|byte| byte.is_ascii_digit())
 }
 
-/// Reads `word` as a lock tag: `DB/REL` is a relation, `DB/CLASS/OBJ/SUB` another object and `adv/DB/K1/K2/SUB` that
-/// of an advisory lock. SUB is at most 65535.
+/// Reads `word` as a lock tag: `DB/REL` is a relation, `DB/CLASS/OBJ/SUB` another object and
+/// `adv/DB/K1/K2/SUB` that of an advisory lock. SUB is at most 65535.
 pub fn parse_tag(word: &str) -> Option<Tag>
     ensures { result ≡ tag_of word.now }
 {
@@ -198,8 +198,8 @@ fn relation_tag(database: Option<u32>, relation: Option<u32>) -> Option<Tag>
     }
 }
 
-/// The lock tag of the advisory lock of `database` on the keys `key1`, `key2` and `sub`, or `None` where one of these
-/// is, or `sub` is above 65535.
+/// The lock tag of the advisory lock of `database` on the keys `key1`, `key2` and `sub`, or `None` where one
+/// of these is, or `sub` is above 65535.
 fn advisory_tag(
     database: Option<u32>,
     key1: Option<u32>,
@@ -216,8 +216,8 @@ fn advisory_tag(
     }
 }
 
-/// The lock tag of the object `object` of the catalog `class` of `database`, with its part `sub_object`, or `None`
-/// where one of these is, or `sub_object` is above 65535.
+/// The lock tag of the object `object` of the catalog `class` of `database`, with its part `sub_object`, or
+/// `None` where one of these is, or `sub_object` is above 65535.
 fn object_tag(
     database: Option<u32>,
     class: Option<u32>,

@@ -1,12 +1,15 @@
 -- The lines of each session, where those of one session change.
-use Rattle.std.proofs.Common.{◌≡◌, ◌≢◌, ◌∙◌, ℕ, ◌<◌, suc, zero, Bool, true, false, cond, List, [], ◌∷◌, ◌++◌, length, get_or, set, refl, ap, sym, subst, arith}
+use Rattle.std.proofs.Common.{◌≡◌, ◌≢◌, ◌∙◌, ℕ, ◌+◌, ◌<◌, deque_len, suc, zero, Bool, true, false, cond, List, [], ◌∷◌, ◌++◌, length, get_or, set, refl, ap, sym, subst, arith}
 use Rattle.std.proofs.Common.{Option, Some, None, Result, Ok, Err}
-use Rattle.std.specs.Prelude.{IfSome, IfNone, MatchOption, OnOk, OnErr}
+use Rattle.std.specs.Prelude.{IfSome, IfNone, MatchOption, OnOk, OnErr, not}
 use Rattle.std.specs.Str.{bytes_eq}
+use Rattle.std.specs.Bool.{◌==◌}
 use Rattle.arrayvec.specs.declared.array_string.ArrayString.{ArrayString}
 use Rattle.std.specs.declared.alloc.AllocError.{AllocError}
 use Rattle.std.proofs.lemmas.Slice.Eq.{bytes_eq-Decides}
-use Rattle.lock_script.specs.Kept.{lines_of, line_of, IsKeptOrder}
+use Rattle.std.proofs.lemmas.Bool.{eqb-true}
+use Rattle.std.proofs.lemmas.List.Sums.{sum_by-set}
+use Rattle.lock_script.specs.Kept.{first_number, kept_count, lines_of, line_of, IsKeptOrder}
 use Rattle.lock_script.specs.declared.kept.KeptLine.{KeptLine}
 use Rattle.lock_script.specs.declared.kept.KeptQueue.{KeptQueue}
 
@@ -169,3 +172,58 @@ module _
       OnErr it (IsKeptOrder (lines_of queues) (λ _. []) (lines_of (set queues place queue)))
   refused-if (Ok _) is = tt
   refused-if (Err _) is = same-order queues place queue d name within called first its-name (is ∙ its-lines)
+
+  its-all : lines_of queues name ≡ d.lines.items
+  its-all = lines-at queues place d name name within called first ((bytes_eq-Decides name name).1 refl) ∙ sym its-lines
+
+  -- The line that is taken is the first one that is kept of the session,
+  pub first-if :
+      (it : Option KeptLine) → MatchOption it (queue.lines.items ≡ d.lines.items) (λ line. d.lines.items ≡ line ∷ queue.lines.items) →
+      IfSome it (λ line. first_number (lines_of queues name) ≡ Some line.number)
+  first-if None is = tt
+  first-if (Some line) is = ap (λ (lines : List KeptLine). first_number lines) (its-all ∙ is)
+
+  -- one line fewer is kept then,
+  pub fewer-if :
+      (it : Option KeptLine) → IfSome it (λ _. deque_len d.lines ≡ deque_len queue.lines + 1) →
+      IfSome it (λ _. kept_count queues ≡ kept_count (set queues place queue) + 1)
+  fewer-if None fewer = tt
+  fewer-if (Some line) fewer =
+      let same = ap (λ (one : KeptQueue). deque_len one.lines) at in
+      let sums = sum_by-set (λ (one : KeptQueue). deque_len one.lines) queues place queue d within in omega (arith, sums, same, fewer)
+
+  -- and where none is taken the session has none.
+  pub empty-if : (it : Option KeptLine) → IfNone it (d.lines.items ≡ []) → IfNone it (lines_of queues name ≡ [])
+  empty-if None empty = its-all ∙ empty
+  empty-if (Some line) empty = tt
+
+-- The lines of the session of the first queue of this name.
+pub lines-there :
+    (queues : List KeptQueue) (place : ℕ) (d : KeptQueue) (name : List ℕ) → place < length queues →
+    ((d : KeptQueue) → (get_or queues place d).session.bytes ≡ name) →
+    ((k : ℕ) (d : KeptQueue) → k < place → (get_or queues k d).session.bytes ≢ name) → d ≡ get_or queues place d →
+    lines_of queues name ≡ d.lines.items
+lines-there queues place d name within called first at =
+    lines-at queues place d name name within called first ((bytes_eq-Decides name name).1 refl) ∙ sym (ap (λ (it : KeptQueue). it.lines.items) at)
+
+no-items : (lines : List KeptLine) → (length lines == 0) ≡ true → lines ≡ []
+no-items [] empty = refl
+no-items (x ∷ lines) empty = absurd (omega (arith, eqb-true (length (x ∷ lines)) 0 empty))
+
+-- A session has lines where its queue isn't empty,
+pub some-of-full :
+    (queue : KeptQueue) (is_empty : Bool) → is_empty ≡ (deque_len queue.lines == 0) → {those : List KeptLine} → those ≡ queue.lines.items →
+    not is_empty ≡ true → those ≢ []
+some-of-full queue is_empty same is full none =
+    let empty : queue.lines.items ≡ [] = sym is ∙ none in
+    let zero-long : (deque_len queue.lines == 0) ≡ true = ap (λ (n : ℕ). n == 0) queue.lines.ok.0 ∙ ap (λ (lines : List KeptLine). length lines == 0) empty in
+    let yes : is_empty ≡ true = same ∙ zero-long in let never : ⊥ = cc in never
+
+-- and has none where it is.
+pub none-of-empty :
+    (queue : KeptQueue) (is_empty : Bool) → is_empty ≡ (deque_len queue.lines == 0) → {those : List KeptLine} → those ≡ queue.lines.items →
+    not is_empty ≡ false → those ≡ []
+none-of-empty queue is_empty same is empty = is ∙ no-items queue.lines.items (sym (ap (λ (n : ℕ). n == 0) queue.lines.ok.0) ∙ sym same ∙ yes is_empty empty) where
+  yes : (b : Bool) → not b ≡ false → b ≡ true
+  yes true is = refl
+  yes false is = let never : ⊥ = cc in absurd never
