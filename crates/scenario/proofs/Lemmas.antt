@@ -4,8 +4,11 @@ pub mod Numbers
 pub mod Hearing
 pub mod InTime
 pub mod InTurn
+pub mod Leaving
 pub mod Lent
+pub mod Likewise
 pub mod Lines
+pub mod Noted
 pub mod Playing
 pub mod Polling
 pub mod Printing

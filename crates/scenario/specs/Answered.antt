@@ -23,14 +23,16 @@ use Rattle.scenario.specs.Waits.{GoesOn, IsBegun, IsQueued, LooksOn, TellsBlocke
 -- What a command leaves of the sessions of a script, and what it is answered.
 
 module _ {B : Type 0} (seat : B → Seated) (view : B → Account) (stack : B → Stack) (old new : OpenSessions (SessionView B) (WaitingView B)) where
-  -- The session at its place has made the call and is answered under its name, and all others are as they were.
+  -- The session at its place has made the call and is answered under its name, and all others are as they
+  -- were.
   pub record CallsAt (caller : Caller) (call : Call) (it : Answer) : Type 0 where
     pub after : SessionView B
     pub made : HoldsAt (λ one. IsMade seat view stack one.session after caller.name call it) old.resting caller.place
     pub there : new.resting ≡ with_session old.resting caller.place after
     pub waiting : new.waiting ≡ old.waiting
 
-  -- The session at its place has asked for a lock that it may wait for, is told what came of it, and doesn't wait.
+  -- The session at its place has asked for a lock that it may wait for, is told what came of it, and doesn't
+  -- wait.
   pub record AcquiresAt (target : Target) (owner : Owner) (it : Answer) : Type 0 where
     pub told : Said
     pub after : SessionView B

@@ -29,8 +29,8 @@ use Rattle.scenario.specs.Numbers.{IsNamed}
 
 -- What a command is answered, and what it leaves of a script's sessions.
 
--- The sessions of a script: those that are open, and the names of those that were opened, by their numbers, beside those that it gave to
--- objects.
+-- The sessions of a script: those that are open, and the names of those that were opened, by their numbers,
+-- beside those that it gave to objects.
 pub record Cast (B : Type 0) : Type 0 where
   pub sessions : OpenSessions (SessionView B) (WaitingView B)
   pub names : Names
@@ -46,8 +46,8 @@ IsOtherOf seat sessions (command.Blockers by other tag) number = IsNumberAt seat
 IsOtherOf seat sessions (command.Cancel by other) number = IsNumberAt seat sessions other.place number
 IsOtherOf seat sessions _ number = ⊤
 
--- A session was opened: it holds nothing, is told its number, stands among those that don't wait, and is known by its name from then on.
--- Where numbers are given out `again`, it may have that of a closed one.
+-- A session was opened: it holds nothing, is told its number, stands among those that don't wait, and is
+-- known by its name from then on. Where numbers are given out `again`, it may have that of a closed one.
 pub record Opens {B : Type 0} (seat : B → Seated) (again : Bool) (database_of : SessionView B → ℕ) (entries : SessionView B → List Entry) (old new : Cast B)
     (name : ArrayString 16) (database : ℕ) (it : Answer) : Type 0 where
   pub session : SessionView B

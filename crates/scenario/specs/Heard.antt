@@ -38,7 +38,8 @@ pub data Heard : Type 0 where
 abbrev pub IsLastPicture : List Heard → Type 0
 IsLastPicture heard = (heard ≡ []) ⊎ (heard ≡ Drawn ∷ [])
 
--- What is heard at the end of a script that has no bad line: a picture, where one is wanted, and that it has ended.
+-- What is heard at the end of a script that has no bad line: a picture, where one is wanted, and that it has
+-- ended.
 abbrev pub IsEnd : List Heard → Type 0
 IsEnd heard = (picture : List Heard) × IsLastPicture picture × (heard ≡ picture ++ Ended ∷ [])
 

@@ -1,8 +1,9 @@
-use Rattle.std.specs.Prelude.{ℕ, List, [], ◌∷◌, ◌++◌, Option, Some, None, codes}
+use Rattle.std.specs.Prelude.{ℕ, List, [], ◌∷◌, ◌++◌, Option, Some, None, codes, map}
 use Rattle.arrayvec.specs.declared.array_string.ArrayString.{ArrayString}
 use Rattle.lock_script.specs.declared.names.Names.{Names}
 use Rattle.lock_script.specs.Objects.{name_given}
-use Rattle.serde_json.specs.Data.{Data, boolean, number, unsigned, string, object, Members, no_members, put}
+use Rattle.serde_json.specs.View.{items_of}
+use Rattle.serde_json.specs.Data.{Data, array, boolean, number, unsigned, string, object, Members, no_members, put}
 use Rattle.modes_core.specs.Mode.{name_of}
 use Rattle.modes_core.specs.Refusal.{refusal_number}
 use Rattle.modes_core.specs.Tag.{hash_of, partition_of, index_of}
@@ -112,3 +113,8 @@ row_data line names (row.Counter index shown) = Some (line_object line ((codes "
 row_data line names (row.Hash tag) =
     Some (line_object line ((codes "hash", count (hash_of tag)) ∷ (codes "partition", count (partition_of tag)) ∷ (codes "strong", count (index_of tag)) ∷ []))
 row_data line names (row.Named it) = Some (line_object line ((codes "name", string it.name.bytes) ∷ (codes "tag", string (tag_text it.tag)) ∷ []))
+
+-- who is left waiting at the end of a script, and how many of its lines were not reached
+abbrev pub left_data : List (ArrayString 16) → ℕ → Data
+left_data waiting lines =
+    object (members ((codes "left_waiting", array (items_of (map (λ name. string name.bytes) waiting))) ∷ (codes "not_reached", count lines) ∷ []))

@@ -18,3 +18,4 @@ pub mod Spoken
 pub mod Written
 pub mod Acts
 pub mod Summaries
+pub mod Staged

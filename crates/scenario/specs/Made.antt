@@ -38,7 +38,8 @@ use Rattle.scenario.specs.declared.calls.Call.{Call}
 use Rattle.scenario.specs.declared.calls.Call.TheVariants.{Try, Fast, Unlock, UnlockAll, Commit, Abort, Begin, SubCommit, SubAbort, Owned, Waiters, Queue, Blockers, Cancel, List, Count}
 use Rattle.scenario.specs.Told.{acquire_told, blockers_told, cancel_told, level_told, list_told, queue_told, unlock_told, waiters_told}
 
--- What a session's call comes to in a script: the library's own clauses, of the session before and after, and of what it was answered.
+-- What a session's call comes to in a script: the library's own clauses, of the session before and after, and
+-- of what it was answered.
 
 module _ {B : Type 0} (seat : B → Seated) (view : B → Account) (stack : B → Stack) (old new : SessionView B) where
   -- What `try` comes to: an acquire that doesn't wait.

@@ -21,8 +21,8 @@ use Rattle.scenario.specs.Waits.{GoesOn, LooksOn}
 
 -- What is heard of a line of a script: its answer, once, and then those who go on.
 
--- A picture is drawn behind a listing, where one is wanted. Who waits for whom is looked up by the session that listed,
--- and may be refused.
+-- A picture is drawn behind a listing, where one is wanted. Who waits for whom is looked up by the session
+-- that listed, and may be refused.
 abbrev pub DrawsPicture : {B : Type 0} → Cast B → List Heard → Cast B → Type 0
 DrawsPicture {B} old heard new =
     ((heard ≡ []) × (new ≡ old))

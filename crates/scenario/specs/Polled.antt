@@ -1,5 +1,4 @@
 use Rattle.std.specs.Prelude.{◌≡◌, ◌⊎◌, List, [], ◌∷◌}
-use Rattle.arrayvec.specs.declared.array_string.ArrayString.{ArrayString}
 use Rattle.lock_script.specs.declared.names.Names.{Names}
 use Rattle.lock_script.specs.declared.sessions.Named.{Named}
 use Rattle.lock_script.specs.Names.{PutsIn}
@@ -9,8 +8,8 @@ use Rattle.scenario.specs.declared.answers.Said.{Said}
 -- A pass over those who wait.
 
 module _ {S W : Type 0} (looks_on : W → W → Type 0) (goes_on : W → Said → S → Type 0) where
-  -- Each of these who wait is polled once, in the order in which they stand. One that waits on is among those that
-  -- stay; one that goes on rests from then on, and its news is heard.
+  -- Each of these who wait is polled once, in the order in which they stand. One that waits on is among those
+  -- that stay; one that goes on rests from then on, and its news is heard.
   abbrev pub PollsEach :
       Names → List (Named W) → List (Named S) → List Heard → List (Named W) → List (Named S) → Type 0
   PollsEach names [] resting heard stay now = (heard ≡ []) × (stay ≡ []) × (now ≡ resting)

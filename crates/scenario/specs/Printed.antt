@@ -3,8 +3,8 @@ use Rattle.std.specs.Io.KnownBytes.{Appends}
 use Rattle.serde_json.specs.Data.{Data}
 use Rattle.serde_json.specs.Written.{compact_text}
 use Rattle.scenario.specs.Heard.{Heard, Line, Told, Listed, Behind, Drawn, Helped, Done, Kept, Ended, Left}
-use Rattle.scenario.specs.Json.{line_data, row_data, said_data}
-use Rattle.scenario.specs.Texts.{row_text, said_text}
+use Rattle.scenario.specs.Json.{left_data, line_data, row_data, said_data}
+use Rattle.scenario.specs.Texts.{left_text, row_text, said_text}
 use Rattle.scenario.specs.declared.output.Output.{Output}
 use Rattle.scenario.specs.declared.style.Form.{Form}
 use Rattle.scenario.specs.declared.style.Form.TheVariants.{Text, Json}
@@ -31,8 +31,8 @@ IsFormOf true (Json alloc) = ⊤
 IsFormOf false Text = ⊤
 IsFormOf false (Json alloc) = ⊥
 
--- The text of what is heard, in this form, with the lines of the script or without, where this line is answered. Of a
--- picture nothing is said, nor of what is left at the end, and in JSON of a few rows.
+-- The text of what is heard, in this form, with the lines of the script or without, where this line is
+-- answered. Of a picture nothing is said, and in JSON of a few rows.
 abbrev pub text_heard : Form → Bool → ℕ → Heard → Option (List ℕ)
 text_heard Text is_echoing line (Line number text) = Some (if is_echoing then text_line (codes "> " ++ text) else [])
 text_heard (Json alloc) is_echoing line (Line number text) = Some (if is_echoing then data_line (line_data number text) else [])
@@ -46,7 +46,9 @@ text_heard form is_echoing line (Helped text) = Some text
 text_heard form is_echoing line Done = Some []
 text_heard form is_echoing line (Kept number text) = Some []
 text_heard form is_echoing line Ended = Some []
-text_heard form is_echoing line (Left waiting lines) = None
+text_heard form is_echoing line (Left [] lines) = Some []
+text_heard Text is_echoing line (Left (first ∷ others) lines) = Some (text_line (left_text first others lines))
+text_heard (Json alloc) is_echoing line (Left (first ∷ others) lines) = Some (data_line (left_data (first ∷ others) lines))
 
 -- An output hears this: its text is written, where it is known.
 pub record Prints {W : Type 0} (contents : W → Option (List ℕ)) (old : Output W) (heard : Heard) (new : Output W) : Type 0 where

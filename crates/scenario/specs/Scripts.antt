@@ -15,7 +15,8 @@ use Rattle.scenario.specs.Answers.{Cast}
 use Rattle.scenario.specs.Heard.{Heard, Hears, HearsAll, IsEnd, Line}
 use Rattle.scenario.specs.Played.{Plays}
 
--- What is heard of a script: its lines one by one, in their order, and behind each what it is answered. A bad line ends it.
+-- What is heard of a script: its lines one by one, in their order, and behind each what it is answered. A bad
+-- line ends it.
 
 -- a line of a script: its number and its text
 pub record ScriptLine : Type 0 where
@@ -26,7 +27,8 @@ pub record ScriptLine : Type 0 where
 abbrev pub words_in : List ℕ → List (List ℕ)
 words_in text = take 6 (words_of text)
 
--- These are the next lines of a script, where this number of lines was read before, and this is left after them.
+-- These are the next lines of a script, where this number of lines was read before, and this is left after
+-- them.
 abbrev pub AreNextLines : ℕ → List ℕ → List (List ℕ) → List ℕ → Type 0
 AreNextLines number script [] unread = unread ≡ script
 AreNextLines number script (text ∷ texts) unread =
@@ -38,7 +40,8 @@ AreFirstLines None texts left = ⊤
 AreFirstLines (Some script) texts None = ⊥
 AreFirstLines (Some script) texts (Some unread) = AreNextLines 0 script texts unread
 
--- After this number of lines comes one that is bad: its text is, and it isn't heard; or its words are, and it is heard alone.
+-- After this number of lines comes one that is bad: its text is, and it isn't heard; or its words are, and it
+-- is heard alone.
 abbrev pub EndsBadly : {B : Type 0} → ℕ → Option (List ℕ) → Cast B → ℕ → Defect → List Heard → Type 0
 EndsBadly lines left cast line what heard =
     (IfSome left (λ unread. (line ≡ lines + 1) × (reading_of lines unread ≡ Err what)) × (heard ≡ []))
@@ -65,16 +68,13 @@ IsBadLine hears number old before text GateHeld new now = ⊥
 
 module _
     {B : Type 0} (seat : B → Seated) (view : B → Account) (stack : B → Stack) (again : Bool) (database_of : SessionView B → ℕ) (entries : SessionView B → List Entry) where
-  -- A line is heard, with its number, and then what its command is answered. A line with no word, and a comment, has none.
+  -- A line is heard, with its number, and then what its command is answered. A line with no word, and a
+  -- comment, has none.
   abbrev pub PlaysLine : ℕ → Cast B → List ℕ → List Heard → Cast B → Type 0
   PlaysLine number old text heard new =
       (IsSilent (words_in text) × (heard ≡ Line number text ∷ []) × (new ≡ old))
       ⊎ ((command : Command) × Means old.sessions old.names.objects (words_in text) command
       × ((answers : List Heard) × (heard ≡ Line number text ∷ answers) × Plays seat view stack again database_of entries old command answers new))
-
-  -- A line is run: it is heard and played, once.
-  abbrev pub RunsLine : Cast B → ScriptLine → Cast B → Type 0
-  RunsLine old line new = (heard : List Heard) × PlaysLine line.number old line.text heard new
 
   -- These lines are heard and played, one after another, each once. The first one has this number.
   abbrev pub PlaysLines : ℕ → Cast B → List (List ℕ) → List Heard → Cast B → Type 0

@@ -35,7 +35,8 @@ pub record BeginsRow (names : Names) (line : ℕ) (told : Blocked) (old new : Li
 abbrev pub IsOpen : List ℕ → WaitRow → Type 0
 IsOpen name row = (row.ended ≡ None) × (row.session.bytes ≡ name)
 
--- A wait of that session ends at this line, by a grant or not; all other rows are as they were. Or it has none that has not ended.
+-- A wait of that session ends at this line, by a grant or not; all other rows are as they were. Or it has
+-- none that has not ended.
 abbrev pub EndsRow : List ℕ → ℕ → Bool → List WaitRow → List WaitRow → Type 0
 EndsRow name line granted old new =
     (All (λ row. IsOpen name row → ⊥) old × (new ≡ old))
@@ -47,6 +48,7 @@ abbrev pub ends_behind : ℕ → Option WaitEnd → Bool
 ends_behind from None = true
 ends_behind from (Some end) = nat_le from end.line
 
--- whether the row's wait began at a line that was read, the last one or one before, and has ended at none before that
+-- whether the row's wait began at a line that was read, the last one or one before, and has ended at none
+-- before that
 abbrev pub is_in_time : ℕ → WaitRow → Bool
 is_in_time read row = nat_le row.from read && ends_behind row.from row.ended

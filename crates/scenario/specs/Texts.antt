@@ -1,4 +1,4 @@
-use Rattle.std.specs.Prelude.{ℕ, Bool, List, [], ◌++◌, true, false, codes, slice_get, Option, Some, None}
+use Rattle.std.specs.Prelude.{ℕ, ◌==◌, if◌then◌else◌, Bool, List, [], ◌++◌, flat_map, true, false, codes, slice_get, Option, Some, None}
 use Rattle.std.specs.Fmt.{decimal}
 use Rattle.arrayvec.specs.declared.array_string.ArrayString.{ArrayString}
 use Rattle.lock_script.specs.declared.names.Names.{Names}
@@ -127,3 +127,15 @@ row_text names (row.NotWaiting name) = name.bytes ++ codes " isn't waiting"
 row_text names (row.Counter index shown) = codes "strong " ++ decimal index ++ codes " " ++ decimal shown
 row_text names (row.Hash tag) = hash_text tag
 row_text names (row.Named it) = codes "name " ++ it.name.bytes ++ codes " " ++ tag_text it.tag
+
+-- how many lines were not reached, where some were not
+abbrev pub not_reached_text : ℕ → List ℕ
+not_reached_text lines =
+    if lines == 0 then []
+    else if lines == 1 then codes "; not reached: 1 line"
+    else (codes "; not reached: " ++ decimal lines) ++ codes " lines"
+
+-- who is left waiting at the end of a script, and how many of its lines were not reached
+abbrev pub left_text : ArrayString 16 → List (ArrayString 16) → ℕ → List ℕ
+left_text first others lines =
+    ((codes "left waiting: " ++ first.bytes) ++ flat_map (λ name. codes ", " ++ name.bytes) others) ++ not_reached_text lines

@@ -31,7 +31,8 @@ pub enum Said {
     Waiters(bool),
     /// The session gave one count of a lock back.
     Unlocked(Unlocked),
-    /// The session gave its advisory locks back. The number counts the modes on objects that the session has no longer.
+    /// The session gave its advisory locks back. The number counts the modes on objects that the session has
+    /// no longer.
     UnlockedAll(u32),
     /// The session's transaction ended with success.
     Committed,
@@ -94,7 +95,8 @@ pub enum Answer {
     NoMemory,
 }
 
-/// The script's answer to the session `name` for an acquire that doesn't wait, where the library's call returned `answer`.
+/// The script's answer to the session `name` for an acquire that doesn't wait, where the library's call
+/// returned `answer`.
 pub fn of_acquire(name: Name, answer: Result<Acquired, Refusal>) -> Answer
     ensures { result ≡ acquire_told name answer }
 {
@@ -104,7 +106,8 @@ pub fn of_acquire(name: Name, answer: Result<Acquired, Refusal>) -> Answer
     }
 }
 
-/// The script's answer to the session `name` for a release of `mode`, where the library's call returned `answer`.
+/// The script's answer to the session `name` for a release of `mode`, where the library's call returned
+/// `answer`.
 pub fn of_unlock(name: Name, mode: Mode, answer: Result<Unlocked, Refusal>) -> Answer
     ensures { result ≡ unlock_told name mode answer }
 {
@@ -114,8 +117,8 @@ pub fn of_unlock(name: Name, mode: Mode, answer: Result<Unlocked, Refusal>) -> A
     }
 }
 
-/// The script's answer to the session `name`, which has `mode`, for a look whether somebody waits for that, where the library's call returned
-/// `answer`.
+/// The script's answer to the session `name`, which has `mode`, for a look whether somebody waits for that,
+/// where the library's call returned `answer`.
 pub fn of_waiters(name: Name, mode: Mode, answer: Result<bool, Refusal>) -> Answer
     ensures { result ≡ waiters_told name mode answer }
 {
@@ -125,8 +128,8 @@ pub fn of_waiters(name: Name, mode: Mode, answer: Result<bool, Refusal>) -> Answ
     }
 }
 
-/// The script's answer to the session `name` for a call that changes the nesting level of its transaction, where the library's call returned
-/// `answer`.
+/// The script's answer to the session `name` for a call that changes the nesting level of its transaction,
+/// where the library's call returned `answer`.
 pub fn of_level(name: Name, answer: Result<u8, Refusal>) -> Answer
     ensures { result ≡ level_told name answer }
 {
@@ -136,7 +139,8 @@ pub fn of_level(name: Name, answer: Result<u8, Refusal>) -> Answer
     }
 }
 
-/// The script's answer to the session `name`, which asked `other` to stop waiting: `asked` says whether `other` waited.
+/// The script's answer to the session `name`, which asked `other` to stop waiting: `asked` says whether
+/// `other` waited.
 pub fn of_cancel(name: Name, other: Name, asked: Asked) -> Answer
     ensures { result ≡ cancel_told name other asked }
 {
@@ -146,7 +150,8 @@ pub fn of_cancel(name: Name, other: Name, asked: Asked) -> Answer
     }
 }
 
-/// The script's answer for a listing that the session `name` asked for, where the library's call returned `answer`.
+/// The script's answer for a listing that the session `name` asked for, where the library's call returned
+/// `answer`.
 pub fn of_list(name: Name, answer: Result<Listing, Refusal>) -> Answer
     ensures { result ≡ list_told name answer }
 {
@@ -156,7 +161,8 @@ pub fn of_list(name: Name, answer: Result<Listing, Refusal>) -> Answer
     }
 }
 
-/// The script's answer for a wait queue that the session `name` asked for, where the library's call returned `answer`.
+/// The script's answer for a wait queue that the session `name` asked for, where the library's call returned
+/// `answer`.
 pub fn of_queue(name: Name, answer: Result<Vec<QueueRow>, Refusal>) -> Answer
     ensures { result ≡ queue_told name answer }
 {
@@ -166,7 +172,8 @@ pub fn of_queue(name: Name, answer: Result<Vec<QueueRow>, Refusal>) -> Answer
     }
 }
 
-/// The script's answer for a look of the session `name` at those in the way of `other`, where the library's call returned `answer`.
+/// The script's answer for a look of the session `name` at those in the way of `other`, where the library's
+/// call returned `answer`.
 pub fn of_blockers(name: Name, other: Name, answer: Result<Vec<Blocker>, Refusal>) -> Answer
     ensures { result ≡ blockers_told name other answer }
 {

@@ -1,4 +1,5 @@
-//! The calls that a line has its session make, over any board, and what it is answered. Each keeps whose session it is.
+//! The calls that a line has its session make, over any board, and what it is answered. Each keeps whose
+//! session it is.
 ghost use Rattle.std.specs.Prelude.{◌≡◌, ℕ, ◌<◌};
 ghost use Rattle.scenario.specs.Calls.{ShowsCounter};
 ghost use Rattle.scenario.specs.Made.{IsMade, Looks, SeesCount};
@@ -38,7 +39,8 @@ pub enum Call {
     SubAbort,
     /// To say how often each owner of the session has an object in a mode.
     Owned(Tag, Mode),
-    /// To say whether somebody waits for an object in a mode that conflicts with this one, which the session has.
+    /// To say whether somebody waits for an object in a mode that conflicts with this one, which the session
+    /// has.
     Waiters(Tag, Mode),
     /// To list who waits for an object.
     Queue(Tag),
@@ -98,7 +100,8 @@ fn try_lock<T: PartTable, B: Board<T>, H: Wait>(
     of_acquire(name, session.try_lock(rt, tag, mode, owner))
 }
 
-/// Has `session` take `mode` on `tag` for `owner` in one of the session's fast-path slots, or refuses at once. The answer is for `name`.
+/// Has `session` take `mode` on `tag` for `owner` in one of the session's fast-path slots, or refuses at
+/// once. The answer is for `name`.
 fn try_fast<T: PartTable, B: Board<T>>(
     session: &mut OwnSession<T, B>,
     name: Name,
@@ -194,7 +197,8 @@ fn abort_nested<T: PartTable, B: Board<T>, H: Wait>(
     of_level(name, session.abort_nested(rt))
 }
 
-/// How often `session` has `tag` in `mode`: for the innermost level of its transaction, and for the session itself. The answer is for `name`.
+/// How often `session` has `tag` in `mode`: for the innermost level of its transaction, and for the session
+/// itself. The answer is for `name`.
 fn owned<T: PartTable, B: Board<T>>(
     session: &mut OwnSession<T, B>,
     name: Name,
@@ -213,7 +217,8 @@ fn owned<T: PartTable, B: Board<T>>(
     Answer::Said(name, said)
 }
 
-/// Whether somebody awaits `tag` in a mode that conflicts with `mode`, which `session` has. The answer is for `name`.
+/// Whether somebody awaits `tag` in a mode that conflicts with `mode`, which `session` has. The answer is for
+/// `name`.
 fn waiters<T: PartTable, B: Board<T>, H: Wait>(
     rt: &H,
     session: &mut OwnSession<T, B>,
@@ -240,7 +245,8 @@ fn queue<T: PartTable, B: Board<T>, H: Wait>(
     of_queue(name, session.queue(rt, tag))
 }
 
-/// The sessions in the way of the wait on `tag` of the session `other`, whose number is `number`, as `session` sees them. The answer is for `name`.
+/// The sessions in the way of the wait on `tag` of the session `other`, whose number is `number`, as
+/// `session` sees them. The answer is for `name`.
 fn blockers<T: PartTable, B: Board<T>, H: Wait>(
     rt: &H,
     session: &mut OwnSession<T, B>,
@@ -255,7 +261,8 @@ fn blockers<T: PartTable, B: Board<T>, H: Wait>(
     of_blockers(name, other, session.blockers(rt, tag, number))
 }
 
-/// Has `session` ask the session `other`, whose number is `number`, to cancel its wait. The answer is for `name`.
+/// Has `session` ask the session `other`, whose number is `number`, to cancel its wait. The answer is for
+/// `name`.
 fn ask_cancel<T: PartTable, B: Board<T>>(
     session: &mut OwnSession<T, B>,
     name: Name,
@@ -291,8 +298,8 @@ fn count<T: PartTable, B: Board<T>>(session: &mut OwnSession<T, B>, index: u16) 
     Answer::Row(Row::Counter { index, shown })
 }
 
-/// Draws with `pen` who waits for whom: the waits among `rows`, those of the lock table in a listing, with who is in the way of each, and the wait
-/// queue of each awaited object, as `session` finds them.
+/// Draws with `pen` who waits for whom: the waits among `rows`, those of the lock table in a listing, with
+/// who is in the way of each, and the wait queue of each awaited object, as `session` finds them.
 pub fn draw<T: PartTable, B: Board<T>, H: Wait>(
     rt: &H,
     session: &mut OwnSession<T, B>,

@@ -33,8 +33,8 @@ pub trait ScriptDesk<S> {
 
     ghost entries: { S → List Entry };
 
-    /// Opens a session of `database`, which holds nothing. Refused where no number is left for the session, or where memory runs out; nothing has
-    /// changed after a refusal.
+    /// Opens a session of `database`, which holds nothing. Refused where no number is left for the session,
+    /// or where memory runs out; nothing has changed after a refusal.
     fn open<R: Wait>(&mut self, rt: &R, database: u32) -> Result<S, Refusal>
         ensures manager { manager self.new ≡ manager self.old }
         ensures own { IfOk result (λ session. (seat session).table ≡ (manager self.old).table) }
@@ -90,8 +90,8 @@ impl<S, D: Desk<S>> ScriptDesk<S> for OnceDesk<D> {
     }
 }
 
-/// A desk that gives a new session the lowest number that no open session has. Closed sessions go to the desk's pool, which has room for all sessions
-/// of the manager and lends them out again.
+/// A desk that gives a new session the lowest number that no open session has. Closed sessions go to the
+/// desk's pool, which has room for all sessions of the manager and lends them out again.
 pub struct ReusingDesk<T: PartTable, B: Board<T>, D: Desk<OwnSession<T, B>>> {
     pub desk: D,
     pub pool: SessionPool<T, B>,

@@ -17,12 +17,13 @@ use shared_rule::{Board, SeatBoard};
 use std::alloc::{AllocError, Global};
 use std::sync::Wait;
 
-/// What is done in a scene: the lines of a script are run, or those that somebody types, or the orders of a script. Whoever does
-/// it is lent the scene, and the sessions that are open at its end are closed behind it.
+/// What is done in a scene: the lines of a script are run, or those that somebody types, or the orders of a
+/// script. Whoever does it is lent the scene, and the sessions that are open at its end are closed behind it.
 pub trait Act<L: Listener> {
     ghost use Rattle.scenario.specs.Acts.{ActsOf};
 
-    // What is done over a board, with a desk: from a cast and a listener on, how it ends, and what the listener is then.
+    // What is done over a board, with a desk: from a cast and a listener on, how it ends, and what the
+    // listener is then.
     ghost acts: { ActsOf Self L };
 
     /// Does it in `scene`.
@@ -56,9 +57,9 @@ impl<T: PartTable, B: Board<T>, D: ScriptDesk<OwnSession<T, B>>, L: Listener> Sc
     }
 }
 
-/// Has `act` be done before `listener`, against a lock manager of its own of the size `config`, which is finished behind it.
-/// Where `reuse`, the numbers of closed sessions are given out again. Nothing is done where there is no memory for the manager.
-/// The listener comes back.
+/// Has `act` be done before `listener`, against a lock manager of its own of the size `config`, which is
+/// finished behind it. Where `reuse`, the numbers of closed sessions are given out again. Nothing is done
+/// where there is no memory for the manager. The listener comes back.
 pub fn drive<H: AllocGlobal + Wait, L: Listener, A: Act<L> + Drop>(
     rt: &H,
     config: Config,
@@ -86,8 +87,9 @@ pub fn drive<H: AllocGlobal + Wait, L: Listener, A: Act<L> + Drop>(
     (listener, ended)
 }
 
-/// Has `act` be done before `listener`, with the sessions that `desk` opens, none of which is open at the end. Where `reuse`, the
-/// numbers of closed sessions are given out again. Nothing is done where there is no memory for the list of sessions.
+/// Has `act` be done before `listener`, with the sessions that `desk` opens, none of which is open at the
+/// end. Where `reuse`, the numbers of closed sessions are given out again. Nothing is done where there is no
+/// memory for the list of sessions.
 fn drive_at<
     T: PartTable,
     B: Board<T>,
@@ -190,8 +192,8 @@ fn drive_reusing<
 }
 
 impl<T: PartTable, B: Board<T>, D: Desk<OwnSession<T, B>>> ScriptState<T, B, ReusingDesk<T, B, D>> {
-    /// A state as `new` makes it, at a desk over `desk` that gives the numbers of closed sessions out again. The desk is let go where
-    /// there is no memory for the lists of sessions.
+    /// A state as `new` makes it, at a desk over `desk` that gives the numbers of closed sessions out again.
+    /// The desk is let go where there is no memory for the lists of sessions.
     pub fn reusing(alloc: Global, desk: D) -> Result<Self, AllocError>
     where
         D: Drop,

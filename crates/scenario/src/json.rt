@@ -1,9 +1,9 @@
-//! The answers of a script as JSON: an object for each line of text, with the number of the script's line that it
-//! answers.
+//! The answers of a script as JSON: an object for each line of text, with the number of the script's line
+//! that it answers.
 
 ghost use Rattle.std.specs.Prelude.{◌≡◌, IfOk, IfSome, []};
 ghost use Rattle.serde_json.specs.View.{view};
-ghost use Rattle.scenario.specs.Json.{in_the_way_data, line_data, not_owned_data, picture_data, refused_data, refused_with, row_data, said_data, told_data, unlocked_all_data};
+ghost use Rattle.scenario.specs.Json.{in_the_way_data, left_data, line_data, not_owned_data, picture_data, refused_data, refused_with, row_data, said_data, told_data, unlocked_all_data};
 
 use crate::answers::{Row, Said};
 use crate::style::Drawing;
@@ -31,8 +31,8 @@ pub fn picture(alloc: Global, line: u32, drawing: &str, text: &str) -> Object
     json!(in alloc; {"line": line, "graph": drawing, "text": text})
 }
 
-/// The line of JSON of the picture `text` of a whole script that ended with the line `line`, in the language `drawing`, with memory by
-/// `alloc`. The error is being out of it.
+/// The line of JSON of the picture `text` of a whole script that ended with the line `line`, in the language
+/// `drawing`, with memory by `alloc`. The error is being out of it.
 pub fn picture_line(
     alloc: Global,
     line: u32,
@@ -45,7 +45,8 @@ pub fn picture_line(
     Ok(line)
 }
 
-/// The object of `said`, which the session `name` is answered at the line `line`, where `names` are those of all sessions and objects.
+/// The object of `said`, which the session `name` is answered at the line `line`, where `names` are those of
+/// all sessions and objects.
 pub fn said(alloc: Global, line: u32, names: &Names, name: &Name, said: Said) -> Object
     ensures { IfOk result (λ object. view object ≡ said_data line names.now name.now said) }
 {
@@ -74,7 +75,8 @@ pub fn said(alloc: Global, line: u32, names: &Names, name: &Name, said: Said) ->
     }
 }
 
-/// The object of a release of all advisory locks at the line `line`, by which the session `name` lost `released` holds.
+/// The object of a release of all advisory locks at the line `line`, by which the session `name` lost
+/// `released` holds.
 fn unlocked_all(alloc: Global, line: u32, name: &Name, released: u32) -> Object
     ensures { IfOk result (λ object. view object ≡ unlocked_all_data line name.now released) }
 {
@@ -99,8 +101,8 @@ fn answer(alloc: Global, line: u32, name: &Name, text: &str) -> Object
     json!(in alloc; {"line": line, "session": name.as_str(), "answer": text})
 }
 
-/// The object of a call of the session `name` that was refused at the line `line` by `refusal`, where `names` are those
-/// of all sessions and objects.
+/// The object of a call of the session `name` that was refused at the line `line` by `refusal`, where `names`
+/// are those of all sessions and objects.
 fn refused(alloc: Global, line: u32, names: &Names, name: &Name, refusal: Refusal) -> Object
     ensures { IfOk result (λ object. view object ≡ refused_data line names.now name.now refusal) }
 {
@@ -124,8 +126,8 @@ fn refused(alloc: Global, line: u32, names: &Names, name: &Name, refusal: Refusa
     }
 }
 
-/// The object of a call of the session `name` that was refused at the line `line` for a reason that names nobody: its
-/// `number` and `text`.
+/// The object of a call of the session `name` that was refused at the line `line` for a reason that names
+/// nobody: its `number` and `text`.
 fn refused_alone(alloc: Global, line: u32, name: &Name, number: u8, text: &str) -> Object
     ensures { IfOk result (λ object. view object ≡ refused_with line name.now number text.now []) }
 {
@@ -158,8 +160,8 @@ pub fn row(alloc: Global, line: u32, names: &Names, row: Row) -> Object
     }
 }
 
-/// The object of the line `line`, by which an object was given a name, as `named` says, where `names` are those of all
-/// sessions and objects.
+/// The object of the line `line`, by which an object was given a name, as `named` says, where `names` are
+/// those of all sessions and objects.
 fn name_row(alloc: Global, line: u32, names: &Names, named: NamedObject) -> Object
     ensures { IfSome (row_data line names.now (Row.Named named)) (λ shown. IfOk result (λ object. view object ≡ shown)) }
 {
@@ -167,8 +169,8 @@ fn name_row(alloc: Global, line: u32, names: &Names, named: NamedObject) -> Obje
     json!(in alloc; {"line": line, "name": named.name.as_str(), "tag": tag})
 }
 
-/// The object of a lock in a slot, `row`, at the line `line`, where `names` are those of all sessions and objects. The object's
-/// name, if it has one, comes after its tag.
+/// The object of a lock in a slot, `row`, at the line `line`, where `names` are those of all sessions and
+/// objects. The object's name, if it has one, comes after its tag.
 fn slot_row(alloc: Global, line: u32, names: &Names, row: SlotRow) -> Object
     ensures { IfSome (row_data line names.now (Row.Slot row)) (λ shown. IfOk result (λ object. view object ≡ shown)) }
 {
@@ -186,8 +188,8 @@ fn slot_row(alloc: Global, line: u32, names: &Names, row: SlotRow) -> Object
     }
 }
 
-/// The object of a lock in the table, `row`, at the line `line`, where `names` are those of all sessions and objects. The object's
-/// name, if it has one, comes after its tag.
+/// The object of a lock in the table, `row`, at the line `line`, where `names` are those of all sessions and
+/// objects. The object's name, if it has one, comes after its tag.
 fn table_row(alloc: Global, line: u32, names: &Names, row: TableRow) -> Object
     ensures { IfSome (row_data line names.now (Row.Table row)) (λ shown. IfOk result (λ object. view object ≡ shown)) }
 {
@@ -205,8 +207,8 @@ fn table_row(alloc: Global, line: u32, names: &Names, row: TableRow) -> Object
     }
 }
 
-/// The object of a wait in a queue, `row`, at the line `line`, with the modes that its session held when it joined,
-/// where `names` are those of all sessions and objects.
+/// The object of a wait in a queue, `row`, at the line `line`, with the modes that its session held when it
+/// joined, where `names` are those of all sessions and objects.
 fn queue_row(alloc: Global, line: u32, names: &Names, row: &QueueRow) -> Object {
     let name = name_of(names, row.session);
     let mut held = Vec::new(alloc);
@@ -221,8 +223,8 @@ fn queue_row(alloc: Global, line: u32, names: &Names, row: &QueueRow) -> Object 
     })
 }
 
-/// The object of `blocker`, one that is in the way of the session `name`, at the line `line`, where `names` are those
-/// of all sessions and objects.
+/// The object of `blocker`, one that is in the way of the session `name`, at the line `line`, where `names`
+/// are those of all sessions and objects.
 fn in_the_way(alloc: Global, line: u32, names: &Names, name: Name, blocker: Blocker) -> Object
     ensures { IfOk result (λ object. view object ≡ in_the_way_data line names.now name blocker) }
 {
@@ -233,7 +235,8 @@ fn in_the_way(alloc: Global, line: u32, names: &Names, name: Name, blocker: Bloc
     })
 }
 
-/// The object of JSON for the row `wait` of a summary. The object that the session awaited is known by `names`.
+/// The object of JSON for the row `wait` of a summary. The object that the session awaited is known by
+/// `names`.
 pub fn waited(alloc: Global, names: &Names, wait: &WaitRow) -> Object {
     let mut behind = Vec::new(alloc);
     for obstacle in &wait.behind {
@@ -263,11 +266,13 @@ pub fn waited(alloc: Global, names: &Names, wait: &WaitRow) -> Object {
     }
 }
 
-/// The object of JSON for the end of a script: the names `waiting` of the sessions that wait, and the number `lines` of their lines that were not
-/// reached.
-pub fn left(alloc: Global, waiting: &[Name], lines: u64) -> Object {
+/// The object of JSON for the end of a script: the names `waiting` of the sessions that wait, and the number
+/// `lines` of their lines that were not reached.
+pub fn left(alloc: Global, waiting: &[Name], lines: u64) -> Object
+    ensures { IfOk result (λ object. view object ≡ left_data waiting.now lines) }
+{
     let mut names = Vec::new(alloc);
-    for name in waiting {
+    'names: for name in waiting {
         names.push(Value::try_from_str(alloc, name.as_str())?)?;
     }
     let names = Value::Array(names);

@@ -1,8 +1,13 @@
 //! Runs in which a line whose session waits is kept until that goes on.
-ghost use Rattle.std.specs.Prelude.{◌≡◌, OnOk};
+ghost use Rattle.std.specs.Prelude.{◌≡◌, ◌^◌, ◌-◌, IfOk, None, OnOk, map, min};
 ghost use Rattle.lock_manager.specs.Crews.{SeatsAre};
-ghost use Rattle.scenario.specs.InTurn.{IsKept, RunsKept, TakesIn};
-ghost use Rattle.scenario.specs.Scripts.{RunsLine};
+ghost use Rattle.lock_script.specs.Kept.{kept_count};
+ghost use Rattle.scenario.specs.Heard.{Kept, Left};
+ghost use Rattle.scenario.specs.InTurn.{DoesLine, IsKeptFor, RunsKept, TakesIn};
+ghost use Rattle.scenario.specs.Spoken.{IsHeardBy};
+ghost use Rattle.sql_script.specs.declared.lines.Heard.{Heard as Said};
+ghost use Rattle.scenario.specs.Acts.{IsKeptHeard};
+ghost use Rattle.scenario.specs.Staged.{play_of, stage_of};
 
 use crate::desks::ScriptDesk;
 use crate::listener::Listener;
@@ -27,9 +32,9 @@ pub(crate) struct ReadLine<'a> {
 }
 
 impl<T: PartTable, B: Board<T>, D: ScriptDesk<OwnSession<T, B>>, L: Listener> Scene<T, B, D, L> {
-    /// Runs the lines of `reader`, to the end of the script or to the first fault. Where `keeping` says so, a line is kept while its session waits or
-    /// has earlier kept lines. After each line that is run, the kept lines are run whose sessions don't wait, in their order. The listener hears at
-    /// the end what is left.
+    /// Runs the lines of `reader`, to the end of the script or to the first fault. Where `keeping` says so, a
+    /// line is kept while its session waits or has earlier kept lines. After each line that is run, the kept
+    /// lines are run whose sessions don't wait, in their order. The listener hears at the end what is left.
     pub(crate) fn run_keeping<H: Wait, R: Read + Drop>(
         &mut self,
         rt: &H,
@@ -37,30 +42,52 @@ impl<T: PartTable, B: Board<T>, D: ScriptDesk<OwnSession<T, B>>, L: Listener> Sc
         keeping: Keeping,
     ) -> Result<(), Fault>
         requires seats { SeatsAre B.seat D.seat }
+        ensures played { OnOk result (IsKeptHeard B.seat B.view B.stack D.again D.database_of D.entries L.hears keeping.speaks
+            keeping.keeps (R.remaining reader) (record { sessions = self.old.state.sessions; names = self.old.state.names })
+            self.old.listener self.new.listener) }
         ensures manager { D.manager self.new.state.desk ≡ D.manager self.old.state.desk }
     {
         let mut lines = LineReader::new(reader);
         let mut kept = KeptLines::new(keeping.alloc);
         let mut script = Spoken::new(keeping);
-        'lines: for _ in 0..u64::MAX {
-            let Some(line) = lines.next_line()? else {
-                break;
-            };
+        'lines: while let Some(line) = lines.next_line()? {
             let read = ReadLine {
                 number: lines.number,
                 text: line.as_str(),
                 more: lines.has_line(),
             };
-            match script.hear(read) {
-                Ok(heard) => self.run_heard(rt, keeping, &mut kept, read, &heard)?,
-                Err(unplayed) => return Err(self.refuse(read.number, unplayed)),
-            }
+            self.hear_line(rt, keeping, &mut kept, &mut script, read)?;
         }
         if let Err(unplayed) = script.finish() {
             return Err(self.refuse(lines.number, unplayed));
         }
         self.tell_end(rt, true)?;
         self.tell_left(keeping.alloc, &kept)
+    }
+
+    /// Does what `line` says, as `script` hears it. What `keeping` has kept of the line while its session
+    /// waits goes to `kept`. Refused where the line's SQL can't be played.
+    fn hear_line<H: Wait>(
+        &mut self,
+        rt: &H,
+        keeping: Keeping,
+        kept: &mut KeptLines,
+        script: &mut Spoken,
+        line: ReadLine<'_>,
+    ) -> Result<(), Fault>
+        requires seats { SeatsAre B.seat D.seat }
+        ensures done { OnOk result ((said : Said) × IsHeardBy script.old.script line.entry.text.now said
+            × DoesLine (play_of B.seat B.view B.stack D.again D.database_of D.entries L.hears) keeping.keeps
+            (stage_of self.old.state.sessions self.old.state.names self.old.listener) kept.old
+            (record { number = line.entry.number; text = line.entry.text.now }) said
+            (stage_of self.new.state.sessions self.new.state.names self.new.listener) kept.new) }
+        ensures silent { script.old.script ≡ None → script.new.script ≡ None }
+        ensures manager { D.manager self.new.state.desk ≡ D.manager self.old.state.desk }
+    {
+        match script.hear(line) {
+            Ok(heard) => self.run_heard(rt, keeping, kept, line, &heard),
+            Err(unplayed) => Err(self.refuse(line.number, unplayed)),
+        }
     }
 
     /// Keeps `line` after the lines of `kept`, or runs it and then the kept lines that can be run.
@@ -72,10 +99,10 @@ impl<T: PartTable, B: Board<T>, D: ScriptDesk<OwnSession<T, B>>, L: Listener> Sc
         line: ReadLine<'_>,
     ) -> Result<(), Fault>
         requires seats { SeatsAre B.seat D.seat }
-        ensures taken { OnOk result (TakesIn (RunsLine B.seat B.view B.stack D.again D.database_of D.entries)
-            (record { sessions = self.old.state.sessions; names = self.old.state.names }) kept.old
+        ensures taken { OnOk result (TakesIn (play_of B.seat B.view B.stack D.again D.database_of D.entries L.hears)
+            (stage_of self.old.state.sessions self.old.state.names self.old.listener) kept.old
             (record { number = line.entry.number; text = line.entry.text.now })
-            (record { sessions = self.new.state.sessions; names = self.new.state.names }) kept.new) }
+            (stage_of self.new.state.sessions self.new.state.names self.new.listener) kept.new) }
         ensures manager { D.manager self.new.state.desk ≡ D.manager self.old.state.desk }
     {
         match kept.session_before(line.text, &self.state.sessions) {
@@ -95,7 +122,9 @@ impl<T: PartTable, B: Board<T>, D: ScriptDesk<OwnSession<T, B>>, L: Listener> Sc
         session: Name,
         line: ReadLine<'_>,
     ) -> Result<(), Fault>
-        ensures kept { OnOk result (IsKept kept.old (record { number = line.entry.number; text = line.entry.text.now }) kept.new) }
+        ensures heard { OnOk result (L.hears self.old.listener (Kept line.entry.number line.entry.text.now) self.new.listener) }
+        ensures kept { OnOk result (IsKeptFor session.bytes kept.old
+            (record { number = line.entry.number; text = line.entry.text.now }) kept.new) }
         ensures state { self.new.state ≡ self.old.state }
         ensures manager { D.manager self.new.state.desk ≡ D.manager self.old.state.desk }
     {
@@ -106,8 +135,8 @@ impl<T: PartTable, B: Board<T>, D: ScriptDesk<OwnSession<T, B>>, L: Listener> Sc
         kept_or_fault(alloc, kept, session, line, defect)
     }
 
-    /// Runs the lines of `kept` whose sessions don't wait, in their order, until the session of each line that is left waits. Where `more`, the line
-    /// after the one that was read last is at hand.
+    /// Runs the lines of `kept` whose sessions don't wait, in their order, until the session of each line
+    /// that is left waits. Where `more`, the line after the one that was read last is at hand.
     pub(crate) fn run_ready<H: Wait>(
         &mut self,
         rt: &H,
@@ -115,15 +144,12 @@ impl<T: PartTable, B: Board<T>, D: ScriptDesk<OwnSession<T, B>>, L: Listener> Sc
         more: bool,
     ) -> Result<(), Fault>
         requires seats { SeatsAre B.seat D.seat }
-        ensures ran { OnOk result (RunsKept (RunsLine B.seat B.view B.stack D.again D.database_of D.entries)
-            (record { sessions = self.old.state.sessions; names = self.old.state.names }) kept.old
-            (record { sessions = self.new.state.sessions; names = self.new.state.names }) kept.new) }
+        ensures ran { OnOk result (RunsKept (play_of B.seat B.view B.stack D.again D.database_of D.entries L.hears)
+            (stage_of self.old.state.sessions self.old.state.names self.old.listener) kept.old
+            (stage_of self.new.state.sessions self.new.state.names self.new.listener) kept.new) }
         ensures manager { D.manager self.new.state.desk ≡ D.manager self.old.state.desk }
     {
-        'ready: for _ in 0..kept.len() {
-            let Some((_, line)) = kept.take_ready(&self.state.sessions) else {
-                break;
-            };
+        'ready: while let Some((_, line)) = kept.take_ready(&self.state.sessions) {
             self.run_line(rt, line.number, line.text.as_str(), more)?;
         }
         Ok(())
@@ -131,6 +157,8 @@ impl<T: PartTable, B: Board<T>, D: ScriptDesk<OwnSession<T, B>>, L: Listener> Sc
 
     /// Tells the listener who waits at the end of the script, and how many lines of `kept` were not reached.
     pub(crate) fn tell_left(&mut self, alloc: Global, kept: &KeptLines) -> Result<(), Fault>
+        ensures heard { OnOk result (L.hears self.old.listener
+            (Left (map (λ one. one.name) self.old.state.sessions.waiting) (min (kept_count kept.now) (2 ^ 64 - 1))) self.new.listener) }
         ensures manager { D.manager self.new.state.desk ≡ D.manager self.old.state.desk }
     {
         let state = &self.state;
@@ -141,7 +169,8 @@ impl<T: PartTable, B: Board<T>, D: ScriptDesk<OwnSession<T, B>>, L: Listener> Sc
     }
 }
 
-/// Keeps `line` of `session` after the lines of `kept`. Refused where the line has a defect, as `defect` says, or where memory runs out.
+/// Keeps `line` of `session` after the lines of `kept`. Refused where the line has a defect, as `defect`
+/// says, or where memory runs out.
 fn kept_or_fault(
     alloc: Global,
     kept: &mut KeptLines,
@@ -149,7 +178,7 @@ fn kept_or_fault(
     line: ReadLine<'_>,
     defect: Result<Option<Defect>, AllocError>,
 ) -> Result<(), Fault>
-    ensures { OnOk result (IsKept kept.old (record { number = line.entry.number; text = line.entry.text.now }) kept.new) }
+    ensures { OnOk result (IsKeptFor session.bytes kept.old (record { number = line.entry.number; text = line.entry.text.now }) kept.new) }
 {
     let number = line.number;
     match defect {
@@ -167,9 +196,11 @@ fn kept_or_fault(
 }
 
 /// The names of all of `sessions`, in their order.
-fn names_in<S>(alloc: Global, sessions: &ByName<S>) -> Result<Vec<Name>, AllocError> {
+fn names_in<S>(alloc: Global, sessions: &ByName<S>) -> Result<Vec<Name>, AllocError>
+    ensures { IfOk result (λ names. names.items ≡ map (λ one. one.name) sessions.now) }
+{
     let mut names = Vec::new(alloc);
-    for place in 0..sessions.len() {
+    'places: for place in 0..sessions.len() {
         names.push(sessions.at(place).name)?;
     }
     Ok(names)

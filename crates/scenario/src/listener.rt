@@ -15,8 +15,9 @@ pub trait Listener {
     // What it is before it hears something, what it hears, and what it is then.
     ghost hears: { Self → Heard → Self → Type 0 };
 
-    /// Hears that a line of the script was read, with its number `number` and its text `text`. What is heard next answers the line. Where `more`, the
-    /// next line is at hand, so that nobody waits for what is printed of this one.
+    /// Hears that a line of the script was read, with its number `number` and its text `text`. What is heard
+    /// next answers the line. Where `more`, the next line is at hand, so that nobody waits for what is
+    /// printed of this one.
     fn begin_line(&mut self, number: u32, text: &str, more: bool) -> Result<(), Fault>
         ensures heard { OnOk result (hears self.old (Line number text.now) self.new) }
         ensures unheard { IfErr result IsUnheard };
@@ -39,12 +40,14 @@ pub trait Listener {
         ensures heard { OnOk result (hears self.old Drawn self.new) }
         ensures unheard { IfErr result IsUnheard };
 
-    /// Whether the listener wants to hear of each wait, as it begins, who is in its way. No session is asked for that otherwise.
+    /// Whether the listener wants to hear of each wait, as it begins, who is in its way. No session is asked
+    /// for that otherwise.
     fn wants_waits(&self) -> bool {
         false
     }
 
-    /// Hears that a session has begun to wait, and who is in its way, `blocked`, as the session says itself. The sessions are known by `names`.
+    /// Hears that a session has begun to wait, and who is in its way, `blocked`, as the session says itself.
+    /// The sessions are known by `names`.
     fn blocked(&mut self, names: &Names, blocked: &Blocked) -> Result<(), Fault>
         ensures heard { OnOk result (hears self.old (Behind names.now blocked.now) self.new) }
         ensures unheard { IfErr result IsUnheard };
@@ -59,8 +62,8 @@ pub trait Listener {
         ensures heard { OnOk result (hears self.old Done self.new) }
         ensures unheard { IfErr result IsUnheard };
 
-    /// Hears of a line that was read, with its text `text` and its number `number`, and is kept until its session goes on. The
-    /// line is answered when it is run. Where `more`, the next line is at hand.
+    /// Hears of a line that was read, with its text `text` and its number `number`, and is kept until its
+    /// session goes on. The line is answered when it is run. Where `more`, the next line is at hand.
     fn keep_line(&mut self, number: u32, text: &str, more: bool) -> Result<(), Fault>
         ensures heard { OnOk result (hears self.old (Kept number text.now) self.new) }
         ensures unheard { IfErr result IsUnheard };
@@ -70,14 +73,14 @@ pub trait Listener {
         None
     }
 
-    /// Hears that the script has ended, and has no bad line. The sessions and objects are known by `names`. Where `tells_left`,
-    /// `left` is called next, with the sessions that are left waiting.
+    /// Hears that the script has ended, and has no bad line. The sessions and objects are known by `names`.
+    /// Where `tells_left`, `left` is called next, with the sessions that are left waiting.
     fn ended(&mut self, names: &Names, tells_left: bool) -> Result<(), Fault>
         ensures heard { OnOk result (hears self.old Ended self.new) }
         ensures unheard { IfErr result IsUnheard };
 
-    /// Hears that the script has ended where lines are kept: the sessions of the names `waiting` wait, and `lines`
-    /// lines were kept and not reached.
+    /// Hears that the script has ended where lines are kept: the sessions of the names `waiting` wait, and
+    /// `lines` lines were kept and not reached.
     fn left(&mut self, waiting: &[Name], lines: u64) -> Result<(), Fault>
         ensures heard { OnOk result (hears self.old (Left waiting.now lines) self.new) }
         ensures unheard { IfErr result IsUnheard };
@@ -106,7 +109,8 @@ pub fn tell_answer<L: Listener>(
     }
 }
 
-/// Tells `listener` a `listing`: each row, and then the number of the rows. The sessions are known by `names`.
+/// Tells `listener` a `listing`: each row, and then the number of the rows. The sessions are known by
+/// `names`.
 fn tell_listing<L: Listener>(
     listener: &mut L,
     names: &Names,

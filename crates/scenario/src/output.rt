@@ -18,8 +18,8 @@ use lock_script::{Fault, Name, Names};
 use std::alloc::Global;
 use std::io::{self, Write};
 
-/// The printed answers of a script. Each line goes to the writer at once, and is passed on where a line of the script is
-/// answered and the next one isn't at hand.
+/// The printed answers of a script. Each line goes to the writer at once, and is passed on where a line of
+/// the script is answered and the next one isn't at hand.
 #[derive(Drop)]
 pub struct Output<W: Write + Drop> {
     writer: W,
@@ -128,8 +128,8 @@ impl<W: Write + Drop> Output<W> {
         written(self.writer.flush())
     }
 
-    /// Writes a row for each wait of a `summary`, whose objects are known by `names`, or that there was none; and who is
-    /// left waiting, where `tells_left`.
+    /// Writes a row for each wait of a `summary`, whose objects are known by `names`, or that there was none;
+    /// and who is left waiting, where `tells_left`.
     pub fn summarize(
         &mut self,
         names: &Names,
@@ -158,7 +158,8 @@ impl<W: Write + Drop> Output<W> {
         self.flush()
     }
 
-    /// Passes what was printed on to the writer, where there is something to pass on and somebody may wait for it.
+    /// Passes what was printed on to the writer, where there is something to pass on and somebody may wait
+    /// for it.
     fn settle(&mut self) -> Result<(), Fault>
         ensures kept { Keeps (W.contents self.old.writer) (W.contents self.new.writer) }
         ensures unheard { IfErr result IsUnheard }
@@ -270,11 +271,19 @@ impl<W: Write + Drop> Listener for Output<W> {
     }
 
     fn left(&mut self, waiting: &[Name], lines: u64) -> Result<(), Fault> {
-        if waiting.is_empty() {
+        let Some((first, others)) = waiting.split_first() else {
             return Ok(());
-        }
+        };
         match self.form {
-            Form::Text => written(writeln!(self.writer, "{}", LeftText { waiting, lines }))?,
+            Form::Text => {
+                let first = *first;
+                let text = LeftText {
+                    first,
+                    others,
+                    lines,
+                };
+                written(writeln!(self.writer, "{text}"))?
+            }
             Form::Json(alloc) => self.write_object(alloc, json::left(alloc, waiting, lines))?,
         }
         self.flush()

@@ -153,9 +153,9 @@ impl Picture {
         Some(self.queues.get(place)?.tag)
     }
 
-    /// The picture's text, where `names` are those of all sessions: a node for each session by its number, with what it
-    /// holds of the objects that are awaited, and what it awaits at which place; an arrow for each that is in another's way,
-    /// and a mark for each that waits in a circle.
+    /// The picture's text, where `names` are those of all sessions: a node for each session by its number,
+    /// with what it holds of the objects that are awaited, and what it awaits at which place; an arrow for
+    /// each that is in another's way, and a mark for each that waits in a circle.
     pub fn text(&self, names: &Names) -> Result<String, AllocError> {
         let mut text = String::new(self.pen.alloc);
         match self.pen.drawing {
@@ -202,8 +202,8 @@ impl Picture {
         writeln!(text, "\"]")
     }
 
-    /// Writes what the node of the session `number` says to `text`, with `line_break` between two lines: its name, what it holds of each
-    /// object that is awaited, and what it awaits.
+    /// Writes what the node of the session `number` says to `text`, with `line_break` between two lines: its
+    /// name, what it holds of each object that is awaited, and what it awaits.
     fn write_label(
         &self,
         names: &Names,
@@ -234,7 +234,8 @@ impl Picture {
         Ok(())
     }
 
-    /// Writes to `text`, after a `line_break`, at which place of its object's queue the session of `wait` waits.
+    /// Writes to `text`, after a `line_break`, at which place of its object's queue the session of `wait`
+    /// waits.
     fn write_place(
         &self,
         wait: Wait,
@@ -319,7 +320,8 @@ impl Picture {
         false
     }
 
-    /// The sessions that wait in a circle, as a set of bits by their numbers: the arrows lead from each of them back to itself.
+    /// The sessions that wait in a circle, as a set of bits by their numbers: the arrows lead from each of
+    /// them back to itself.
     fn circles(&self) -> u64 {
         let mut reached = [0_u64; 64];
         for arrow in &self.arrows {

@@ -25,8 +25,8 @@ pub struct Scene<T: PartTable, B: Board<T>, D: ScriptDesk<OwnSession<T, B>>, L: 
 }
 
 impl<T: PartTable, B: Board<T>, D: ScriptDesk<OwnSession<T, B>>, L: Listener> Scene<T, B, D, L> {
-    /// Draws who waits for whom at the end of the script, where the listener wants that, and tells the listener that the script
-    /// has ended. Where `tells_left`, the listener hears next who is left waiting.
+    /// Draws who waits for whom at the end of the script, where the listener wants that, and tells the
+    /// listener that the script has ended. Where `tells_left`, the listener hears next who is left waiting.
     pub(crate) fn tell_end<H: Wait>(&mut self, rt: &H, tells_left: bool) -> Result<(), Fault>
         ensures heard { OnOk result (Hears L.hears self.old.listener self.new.listener IsEnd) }
         ensures unheard { IfErr result IsUnheard }
@@ -55,8 +55,8 @@ impl<T: PartTable, B: Board<T>, D: ScriptDesk<OwnSession<T, B>>, L: Listener> Sc
         }
     }
 
-    /// Runs the lines of `reader`, to the end of the script or to the first fault, and tells the listener that the script has
-    /// ended where it has no bad line.
+    /// Runs the lines of `reader`, to the end of the script or to the first fault, and tells the listener
+    /// that the script has ended where it has no bad line.
     pub(crate) fn run_lines<H: Wait, R: Read + Drop>(
         &mut self,
         rt: &H,
@@ -75,8 +75,8 @@ impl<T: PartTable, B: Board<T>, D: ScriptDesk<OwnSession<T, B>>, L: Listener> Sc
         self.tell_end(rt, false)
     }
 
-    /// Tells the listener `line`, which has this `number`, and runs its command if it has one. Where `more`, the next line
-    /// is at hand.
+    /// Tells the listener `line`, which has this `number`, and runs its command if it has one. Where `more`,
+    /// the next line is at hand.
     pub(crate) fn run_line<H: Wait>(
         &mut self,
         rt: &H,
@@ -127,8 +127,8 @@ impl<T: PartTable, B: Board<T>, D: ScriptDesk<OwnSession<T, B>>, L: Listener> Sc
         self.listener.end_line()
     }
 
-    /// Tells the listener what it wants to hear after `answer`: after a listing that `lister` asked for, a picture of who waits for whom; after an
-    /// answer that a session waits, who is in its way.
+    /// Tells the listener what it wants to hear after `answer`: after a listing that `lister` asked for, a
+    /// picture of who waits for whom; after an answer that a session waits, who is in its way.
     fn follow_up<H: Wait>(
         &mut self,
         rt: &H,
@@ -153,7 +153,8 @@ impl<T: PartTable, B: Board<T>, D: ScriptDesk<OwnSession<T, B>>, L: Listener> Sc
         }
     }
 
-    /// Tells the listener who is in the way of the session `name`, which has begun to wait, as the session says itself, if the listener wants that.
+    /// Tells the listener who is in the way of the session `name`, which has begun to wait, as the session
+    /// says itself, if the listener wants that.
     fn tell_wait<H: Wait>(&mut self, rt: &H, name: Name) -> Result<(), Fault>
         ensures told { OnOk result (Hears L.hears self.old.listener self.new.listener (λ more.
             TellsWait B.seat B.view B.stack name
@@ -177,7 +178,8 @@ impl<T: PartTable, B: Board<T>, D: ScriptDesk<OwnSession<T, B>>, L: Listener> Sc
         }
     }
 
-    /// Draws who waits for whom, by the `rows` of a listing that `caller` asked for, if the listener wants that.
+    /// Draws who waits for whom, by the `rows` of a listing that `caller` asked for, if the listener wants
+    /// that.
     fn draw<H: Wait>(&mut self, rt: &H, caller: Caller, rows: &[TableRow]) -> Result<(), Fault>
         ensures drawn { OnOk result (Hears L.hears self.old.listener self.new.listener (λ picture. DrawsPicture
             (record { sessions = self.old.state.sessions; names = self.old.state.names }) picture

@@ -1,6 +1,6 @@
 //! Runs of whole scripts, each against a lock manager of its own.
-ghost use Rattle.std.specs.Prelude.{◌≡◌, false};
-ghost use Rattle.scenario.specs.Acts.{UnlessUnheard, WritesScript, no_cast};
+ghost use Rattle.std.specs.Prelude.{◌≡◌, ◌||◌, IsTrue, OnOk, false};
+ghost use Rattle.scenario.specs.Acts.{IsKeptHeard, UnlessUnheard, WritesScript, no_cast};
 ghost use Rattle.scenario.specs.Scripts.{IsScriptHeard};
 ghost use Rattle.scenario.specs.Sizes.{IsForManager};
 
@@ -46,11 +46,11 @@ pub struct Script<R> {
 }
 
 impl<R: Read + Drop, L: Listener> Act<L> for Script<R> {
-    ghost use Rattle.scenario.specs.Acts.{IfPlain};
-    ghost use Rattle.scenario.specs.Scripts.{IsScriptHeard};
+    ghost use Rattle.scenario.specs.Acts.{IsHeardInManner};
 
-    ghost acts = { λ B seat view stack again database_of entries script old before ended now. IfPlain script.manner
-        (IsScriptHeard seat view stack again database_of entries L.hears (R.remaining script.reader) old before ended now) };
+    ghost acts = { λ B seat view stack again database_of entries script old before ended now.
+        IsHeardInManner seat view stack again database_of entries L.hears script.manner (R.remaining script.reader) old before ended
+        now };
 
     fn act<T: PartTable, B: Board<T>, D: ScriptDesk<OwnSession<T, B>>, H: Wait>(
         self,
@@ -86,7 +86,9 @@ impl Turns {
 
     /// In which manner the lines of a script are run, where kept lines take memory by `alloc`.
     fn manner(self, alloc: Global) -> Manner
-        ensures { self.keep ≡ false → self.sql ≡ false → result ≡ Manner.Plain }
+        ensures plain { self.keep ≡ false → self.sql ≡ false → result ≡ Manner.Plain }
+        ensures keeping { IsTrue (self.keep || self.sql) →
+            result ≡ Manner.Keeping (record { alloc = alloc; speaks = self.sql; keeps = self.keep }) }
     {
         if self.sql || self.keep {
             Manner::Keeping(Keeping {
@@ -100,10 +102,10 @@ impl Turns {
     }
 }
 
-/// Runs the script that `reader` gives against a lock manager of its own, of the size `config`, and writes to `writer`
-/// what each line prints before the next line is run. The writer is flushed where the next line has to be read first.
-/// The run ends with the input, or with the first fault, and then the sessions that are open are closed in silence. The
-/// writer comes back, with all that was written.
+/// Runs the script that `reader` gives against a lock manager of its own, of the size `config`, and writes to
+/// `writer` what each line prints before the next line is run. The writer is flushed where the next line has
+/// to be read first. The run ends with the input, or with the first fault, and then the sessions that are
+/// open are closed in silence. The writer comes back, with all that was written.
 pub fn run_script<H: AllocGlobal + Wait, R: Read + Drop, W: Write + Drop>(
     rt: &H,
     reader: R,
@@ -138,11 +140,12 @@ pub fn run_styled_script<H: AllocGlobal + Wait, R: Read + Drop, W: Write + Drop>
     (output.into_writer(), ended)
 }
 
-/// Runs the script that `reader` gives against a lock manager of its own, of the size `config`, and tells `listener` what each line
-/// is answered. Where `turns` keeps lines, one whose session waits is kept, and run once the session goes on, after the lines of
-/// the session that were kept before. Where `turns` says that the script speaks SQL, the lines that the statements of its `do`
-/// lines come to are kept in any case. Where lines are kept, `listener` hears at the end who is left waiting, and how many lines
-/// were not reached. Where `turns` reuses numbers, a new session has the lowest one that no open session has. The run ends with
+/// Runs the script that `reader` gives against a lock manager of its own, of the size `config`, and tells
+/// `listener` what each line is answered. Where `turns` keeps lines, one whose session waits is kept, and run
+/// once the session goes on, after the lines of the session that were kept before. Where `turns` says that
+/// the script speaks SQL, the lines that the statements of its `do` lines come to are kept in any case. Where
+/// lines are kept, `listener` hears at the end who is left waiting, and how many lines were not reached.
+/// Where `turns` reuses numbers, a new session has the lowest one that no open session has. The run ends with
 /// the input or the first fault, and the listener comes back.
 pub fn run_in_turn<H: AllocGlobal + Wait, R: Read + Drop, L: Listener>(
     rt: &H,
@@ -156,6 +159,10 @@ pub fn run_in_turn<H: AllocGlobal + Wait, R: Read + Drop, L: Listener>(
         let D = ⟦<ManagerDesk<'static> as Desk<Session<'static>>>⟧ in turns.keep ≡ false → turns.sql ≡ false →
         IsScriptHeard B.seat B.view B.stack turns.reuse D.database_of D.entries L.hears (R.remaining reader) no_cast listener
         result.1 result.0 }
+    ensures heard_in_turn { let B = ⟦<SeatBoard<'static, Part> as Board<Part>>⟧ in
+        let D = ⟦<ManagerDesk<'static> as Desk<Session<'static>>>⟧ in IsTrue (turns.keep || turns.sql) →
+        OnOk result.1 (IsKeptHeard B.seat B.view B.stack turns.reuse D.database_of D.entries L.hears turns.sql turns.keep
+        (R.remaining reader) no_cast listener result.0) }
 {
     let manner = turns.manner(rt.alloc());
     drive(rt, config, turns.reuse, listener, Script { reader, manner })

@@ -1,5 +1,5 @@
-//! The desk of a script with its open sessions, which are called by their places. All is over any board: the desk
-//! opens and closes the sessions.
+//! The desk of a script with its open sessions, which are called by their places. All is over any board: the
+//! desk opens and closes the sessions.
 ghost use Rattle.std.specs.Prelude.{◌≡◌, ◌⊎◌, ◌≤◌, ◌<◌, ◌+◌, [], All, None, length, is_some, if◌then◌else◌, IfOk};
 ghost use Rattle.lock_manager.specs.Crews.{SeatsAre};
 ghost use Rattle.lock_script.specs.Command.{Addresses, NamesCounter, NamesFree};
@@ -83,9 +83,10 @@ pub fn action_of(command: Command, other: SessionId) -> Action
     }
 }
 
-/// What a script acts on: a desk that opens sessions, the names of sessions by the numbers that the desk gave out, the names of objects, and the open
-/// sessions. Each open session is one of the desk's manager, which has `USUAL_SESSIONS` at most, under a number that the desk gave out, and the desk
-/// counts the open sessions. The state is taken apart at its end, once no session is open.
+/// What a script acts on: a desk that opens sessions, the names of sessions by the numbers that the desk gave
+/// out, the names of objects, and the open sessions. Each open session is one of the desk's manager, which
+/// has `USUAL_SESSIONS` at most, under a number that the desk gave out, and the desk counts the open
+/// sessions. The state is taken apart at its end, once no session is open.
 pub struct ScriptState<T: PartTable, B: Board<T>, D: ScriptDesk<OwnSession<T, B>>> {
     pub desk: D,
     pub names: Names,
@@ -102,8 +103,8 @@ pub struct ScriptState<T: PartTable, B: Board<T>, D: ScriptDesk<OwnSession<T, B>
 impl<T: PartTable, B: Board<T>, D: ScriptDesk<OwnSession<T, B>>> ScriptState<T, B, D> {
     ghost use Rattle.lock_script.specs.Sessions.{IsThere, MayAct};
 
-    /// The state of a script that acts on `desk`, of which no session was opened yet. The desk is let go where there is no memory for the list of
-    /// sessions.
+    /// The state of a script that acts on `desk`, of which no session was opened yet. The desk is let go
+    /// where there is no memory for the list of sessions.
     pub fn new(alloc: Global, desk: D) -> Result<Self, AllocError>
     where
         D: Drop,
@@ -145,7 +146,8 @@ impl<T: PartTable, B: Board<T>, D: ScriptDesk<OwnSession<T, B>>> ScriptState<T, 
         }
     }
 
-    /// The number of the other session that `command` names, or the first session number where `command` names no other one.
+    /// The number of the other session that `command` names, or the first session number where `command`
+    /// names no other one.
     fn other_of(&self, command: &Command) -> SessionId
         requires addressed { Addresses self.now.sessions command.now }
         ensures number { IsOtherOf B.seat self.now.sessions command.now result }
@@ -194,7 +196,8 @@ impl<T: PartTable, B: Board<T>, D: ScriptDesk<OwnSession<T, B>>> ScriptState<T, 
         }
     }
 
-    /// Closes the session `caller`. The session's name is free again, and its number is where the desk gives those of closed sessions out again.
+    /// Closes the session `caller`. The session's name is free again, and its number is where the desk gives
+    /// those of closed sessions out again.
     fn close<H: Wait>(&mut self, rt: &H, caller: Caller) -> Answer
         requires seats { SeatsAre B.seat D.seat }
         requires place { MayAct self.old.sessions caller.place }
@@ -241,7 +244,8 @@ impl<T: PartTable, B: Board<T>, D: ScriptDesk<OwnSession<T, B>>> ScriptState<T, 
         make(rt, session, caller.name, call)
     }
 
-    /// The picture of who waits for whom, by the `rows` of the lock table in a listing, as the session at `place` finds it; `pen` draws it.
+    /// The picture of who waits for whom, by the `rows` of the lock table in a listing, as the session at
+    /// `place` finds it; `pen` draws it.
     pub fn picture<H: Wait>(
         &mut self,
         rt: &H,
@@ -261,7 +265,8 @@ impl<T: PartTable, B: Board<T>, D: ScriptDesk<OwnSession<T, B>>> ScriptState<T, 
         Ok(picture)
     }
 
-    /// Adds to `picture` what each session holds of the objects that are awaited in the picture. Refused where there is no memory for that.
+    /// Adds to `picture` what each session holds of the objects that are awaited in the picture. Refused
+    /// where there is no memory for that.
     fn add_holds(&self, picture: &mut Picture) -> Result<(), Refusal> {
         match self.add_all_holds(picture) {
             Ok(()) => Ok(()),
@@ -290,8 +295,8 @@ impl<T: PartTable, B: Board<T>, D: ScriptDesk<OwnSession<T, B>>> ScriptState<T, 
         Ok(())
     }
 
-    /// The wait of the session at `place` among those that wait, with who is in its way, as the session says itself. Refused where there is no memory
-    /// for the list.
+    /// The wait of the session at `place` among those that wait, with who is in its way, as the session says
+    /// itself. Refused where there is no memory for the list.
     pub fn blocked<H: Wait>(&mut self, rt: &H, place: usize) -> Result<Blocked, Refusal>
         requires { place < length self.old.sessions.waiting }
         ensures told { IfOk result (TellsBlockedAt B.seat B.view B.stack self.old.sessions self.new.sessions place) }
@@ -303,8 +308,8 @@ impl<T: PartTable, B: Board<T>, D: ScriptDesk<OwnSession<T, B>>> ScriptState<T, 
         tell_blocked(rt, waiting)
     }
 
-    /// The wait queue that has the session at `place` among those that wait, as the session says itself. Refused where there is no memory for the
-    /// list.
+    /// The wait queue that has the session at `place` among those that wait, as the session says itself.
+    /// Refused where there is no memory for the list.
     fn queue_at<H: Wait>(&mut self, rt: &H, place: usize) -> Result<Vec<QueueRow>, Refusal>
         requires { place < length self.old.sessions.waiting }
         ensures as_many { length self.new.sessions.waiting ≡ length self.old.sessions.waiting }
@@ -315,7 +320,8 @@ impl<T: PartTable, B: Board<T>, D: ScriptDesk<OwnSession<T, B>>> ScriptState<T, 
         waiting.queue(rt)
     }
 
-    /// The picture of who waits for whom, as the sessions that wait say themselves; `pen` draws it. Refused where there is no memory for it.
+    /// The picture of who waits for whom, as the sessions that wait say themselves; `pen` draws it. Refused
+    /// where there is no memory for it.
     pub fn last_picture<H: Wait>(&mut self, rt: &H, pen: Pen) -> Result<Picture, Refusal>
         ensures names { self.new.names ≡ self.old.names }
         ensures manager { D.manager self.new.desk ≡ D.manager self.old.desk }
@@ -348,8 +354,8 @@ impl<T: PartTable, B: Board<T>, D: ScriptDesk<OwnSession<T, B>>> ScriptState<T, 
         }
     }
 
-    /// Polls the wait of the session at `place` among those that wait, and carries a cancel out that was asked for. Where the session goes on, the
-    /// answer has its name and what it is answered.
+    /// Polls the wait of the session at `place` among those that wait, and carries a cancel out that was
+    /// asked for. Where the session goes on, the answer has its name and what it is answered.
     pub fn poll<H: Wait>(&mut self, rt: &H, place: usize) -> Option<(Name, Said)>
         requires { place < length self.old.sessions.waiting }
         ensures polled { PollsAt B.seat B.view B.stack self.old.sessions self.new.sessions place result }
@@ -371,7 +377,8 @@ impl<T: PartTable, B: Board<T>, D: ScriptDesk<OwnSession<T, B>>> ScriptState<T, 
         }
     }
 
-    /// Cancels the waits of the sessions that wait, and then closes all sessions, in the byte order of their names.
+    /// Cancels the waits of the sessions that wait, and then closes all sessions, in the byte order of their
+    /// names.
     pub fn close_all<H: Wait>(&mut self, rt: &H)
         requires seats { SeatsAre B.seat D.seat }
         ensures manager { D.manager self.new.desk ≡ D.manager self.old.desk }

@@ -1,9 +1,12 @@
-//! Runs of scripts that speak SQL: a schema makes tables, and a session plays what the statements of its `do` lines lock.
-ghost use Rattle.std.specs.Prelude.{◌≡◌, IfOk, OnOk, map, string_bytes};
+//! Runs of scripts that speak SQL: a schema makes tables, and a session plays what the statements of its `do`
+//! lines lock.
+ghost use Rattle.std.specs.Prelude.{◌≡◌, [], ◌∷◌, IfOk, None, OnOk, false, map, string_bytes};
 ghost use Rattle.lock_manager.specs.Crews.{SeatsAre};
-ghost use Rattle.scenario.specs.InTurn.{DoesLine, NamesTable, NamesTables, PlaysStatements, TakesIn, TakesInEach, lines_at, may_be_named, name_line, tables_in};
+ghost use Rattle.scenario.specs.Heard.{Done, Hears, HearsAll, Line};
+ghost use Rattle.scenario.specs.InTurn.{DoesLine, NamesTable, NamesTables, PlaysStatements, TakesInEach, lines_at, may_be_named, name_line, tables_in};
+ghost use Rattle.scenario.specs.Scripts.{PlaysLine};
 ghost use Rattle.scenario.specs.Spoken.{IsHeardBy};
-ghost use Rattle.scenario.specs.Scripts.{RunsLine};
+ghost use Rattle.scenario.specs.Staged.{play_of, stage_of};
 
 use crate::desks::ScriptDesk;
 use crate::kept::ReadLine;
@@ -26,7 +29,9 @@ pub(crate) struct Spoken {
 
 impl Spoken {
     /// A script of which no line was heard yet, and which speaks SQL where `keeping` says so.
-    pub fn new(keeping: Keeping) -> Self {
+    pub fn new(keeping: Keeping) -> Self
+        ensures { keeping.speaks ≡ false → result.script ≡ None }
+    {
         let script = if keeping.speaks {
             Some(SqlScript::new(keeping.alloc))
         } else {
@@ -37,7 +42,8 @@ impl Spoken {
 
     /// What `line` says in SQL. In a script that doesn't speak SQL no line says any.
     pub fn hear(&mut self, line: ReadLine<'_>) -> Result<Heard, Unplayed>
-        ensures { IfOk result (IsHeardBy self.old.script line.entry.text.now) }
+        ensures heard { IfOk result (IsHeardBy self.old.script line.entry.text.now) }
+        ensures silent { self.old.script ≡ None → self.new.script ≡ None }
     {
         match &mut self.script {
             Some(script) => script.hear(line.number, line.text),
@@ -55,7 +61,8 @@ impl Spoken {
 }
 
 impl<T: PartTable, B: Board<T>, D: ScriptDesk<OwnSession<T, B>>, L: Listener> Scene<T, B, D, L> {
-    /// Runs `line`, which says what `heard` has. What `keeping` has kept of the line while its session waits goes to `kept`.
+    /// Runs `line`, which says what `heard` has. What `keeping` has kept of the line while its session waits
+    /// goes to `kept`.
     pub(crate) fn run_heard<H: Wait>(
         &mut self,
         rt: &H,
@@ -65,10 +72,10 @@ impl<T: PartTable, B: Board<T>, D: ScriptDesk<OwnSession<T, B>>, L: Listener> Sc
         heard: &Heard,
     ) -> Result<(), Fault>
         requires seats { SeatsAre B.seat D.seat }
-        ensures done { OnOk result (DoesLine (RunsLine B.seat B.view B.stack D.again D.database_of D.entries) (λ cast. cast.names.objects)
-            (record { sessions = self.old.state.sessions; names = self.old.state.names }) kept.old
+        ensures done { OnOk result (DoesLine (play_of B.seat B.view B.stack D.again D.database_of D.entries L.hears) keeping.keeps
+            (stage_of self.old.state.sessions self.old.state.names self.old.listener) kept.old
             (record { number = line.entry.number; text = line.entry.text.now }) heard.now
-            (record { sessions = self.new.state.sessions; names = self.new.state.names }) kept.new) }
+            (stage_of self.new.state.sessions self.new.state.names self.new.listener) kept.new) }
         ensures manager { D.manager self.new.state.desk ≡ D.manager self.old.state.desk }
     {
         match heard {
@@ -81,7 +88,8 @@ impl<T: PartTable, B: Board<T>, D: ScriptDesk<OwnSession<T, B>>, L: Listener> Sc
         }
     }
 
-    /// Runs `line`, which says no SQL. Where `keeping` says so the line is kept in `kept` while its session waits.
+    /// Runs `line`, which says no SQL. Where `keeping` says so the line is kept in `kept` while its session
+    /// waits.
     fn run_plain<H: Wait>(
         &mut self,
         rt: &H,
@@ -90,10 +98,10 @@ impl<T: PartTable, B: Board<T>, D: ScriptDesk<OwnSession<T, B>>, L: Listener> Sc
         line: ReadLine<'_>,
     ) -> Result<(), Fault>
         requires seats { SeatsAre B.seat D.seat }
-        ensures taken { OnOk result (TakesIn (RunsLine B.seat B.view B.stack D.again D.database_of D.entries)
-            (record { sessions = self.old.state.sessions; names = self.old.state.names }) kept.old
-            (record { number = line.entry.number; text = line.entry.text.now })
-            (record { sessions = self.new.state.sessions; names = self.new.state.names }) kept.new) }
+        ensures done { OnOk result (DoesLine (play_of B.seat B.view B.stack D.again D.database_of D.entries L.hears) keeping.keeps
+            (stage_of self.old.state.sessions self.old.state.names self.old.listener) kept.old
+            (record { number = line.entry.number; text = line.entry.text.now }) Heard.Plain
+            (stage_of self.new.state.sessions self.new.state.names self.new.listener) kept.new) }
         ensures manager { D.manager self.new.state.desk ≡ D.manager self.old.state.desk }
     {
         if keeping.keeps {
@@ -105,6 +113,8 @@ impl<T: PartTable, B: Board<T>, D: ScriptDesk<OwnSession<T, B>>, L: Listener> Sc
 
     /// Tells the listener `line`, which asks for nothing by itself.
     fn show_line(&mut self, line: ReadLine<'_>) -> Result<(), Fault>
+        ensures shown { OnOk result (HearsAll L.hears self.old.listener
+            (Line line.entry.number line.entry.text.now ∷ Done ∷ []) self.new.listener) }
         ensures state { self.new.state ≡ self.old.state }
         ensures manager { D.manager self.new.state.desk ≡ D.manager self.old.state.desk }
     {
@@ -133,10 +143,10 @@ impl<T: PartTable, B: Board<T>, D: ScriptDesk<OwnSession<T, B>>, L: Listener> Sc
         statements: &Statements,
     ) -> Result<(), Fault>
         requires seats { SeatsAre B.seat D.seat }
-        ensures played { OnOk result (PlaysStatements (RunsLine B.seat B.view B.stack D.again D.database_of D.entries) (λ cast. cast.names.objects)
-            (record { sessions = self.old.state.sessions; names = self.old.state.names }) kept.old line.entry.number
+        ensures played { OnOk result (PlaysStatements (play_of B.seat B.view B.stack D.again D.database_of D.entries L.hears)
+            (stage_of self.old.state.sessions self.old.state.names self.old.listener) kept.old line.entry.number
             (string_bytes statements.now.session) statements.now.turns.items
-            (record { sessions = self.new.state.sessions; names = self.new.state.names }) kept.new) }
+            (stage_of self.new.state.sessions self.new.state.names self.new.listener) kept.new) }
         ensures manager { D.manager self.new.state.desk ≡ D.manager self.old.state.desk }
     {
         let session = statements.session.as_str();
@@ -153,7 +163,8 @@ impl<T: PartTable, B: Board<T>, D: ScriptDesk<OwnSession<T, B>>, L: Listener> Sc
         self.take_in_each(rt, alloc, kept, line, &played)
     }
 
-    /// Runs each of `texts`, as a line of the number of `line`, or keeps it in `kept` while its session waits.
+    /// Runs each of `texts`, as a line of the number of `line`, or keeps it in `kept` while its session
+    /// waits.
     fn take_in_each<H: Wait>(
         &mut self,
         rt: &H,
@@ -163,10 +174,10 @@ impl<T: PartTable, B: Board<T>, D: ScriptDesk<OwnSession<T, B>>, L: Listener> Sc
         texts: &Vec<String>,
     ) -> Result<(), Fault>
         requires seats { SeatsAre B.seat D.seat }
-        ensures taken { OnOk result (TakesInEach (RunsLine B.seat B.view B.stack D.again D.database_of D.entries)
-            (record { sessions = self.old.state.sessions; names = self.old.state.names }) kept.old
+        ensures taken { OnOk result (TakesInEach (play_of B.seat B.view B.stack D.again D.database_of D.entries L.hears)
+            (stage_of self.old.state.sessions self.old.state.names self.old.listener) kept.old
             (lines_at line.entry.number (map string_bytes texts.now.items))
-            (record { sessions = self.new.state.sessions; names = self.new.state.names }) kept.new) }
+            (stage_of self.new.state.sessions self.new.state.names self.new.listener) kept.new) }
         ensures manager { D.manager self.new.state.desk ≡ D.manager self.old.state.desk }
     {
         'texts: for text in texts {
@@ -189,9 +200,9 @@ impl<T: PartTable, B: Board<T>, D: ScriptDesk<OwnSession<T, B>>, L: Listener> Sc
         turns: &Vec<Turn>,
     ) -> Result<(), Fault>
         requires seats { SeatsAre B.seat D.seat }
-        ensures named { OnOk result (NamesTables (RunsLine B.seat B.view B.stack D.again D.database_of D.entries) (λ cast. cast.names.objects)
-            (record { sessions = self.old.state.sessions; names = self.old.state.names }) line.entry.number (tables_in turns.now.items)
-            (record { sessions = self.new.state.sessions; names = self.new.state.names })) }
+        ensures named { OnOk result (NamesTables (play_of B.seat B.view B.stack D.again D.database_of D.entries L.hears)
+            (stage_of self.old.state.sessions self.old.state.names self.old.listener) line.entry.number (tables_in turns.now.items)
+            (stage_of self.new.state.sessions self.new.state.names self.new.listener)) }
         ensures manager { D.manager self.new.state.desk ≡ D.manager self.old.state.desk }
     {
         'turns: for turn in turns {
@@ -209,9 +220,9 @@ impl<T: PartTable, B: Board<T>, D: ScriptDesk<OwnSession<T, B>>, L: Listener> Sc
         tables: &Vec<Table>,
     ) -> Result<(), Fault>
         requires seats { SeatsAre B.seat D.seat }
-        ensures named { OnOk result (NamesTables (RunsLine B.seat B.view B.stack D.again D.database_of D.entries) (λ cast. cast.names.objects)
-            (record { sessions = self.old.state.sessions; names = self.old.state.names }) line.entry.number tables.now.items
-            (record { sessions = self.new.state.sessions; names = self.new.state.names })) }
+        ensures named { OnOk result (NamesTables (play_of B.seat B.view B.stack D.again D.database_of D.entries L.hears)
+            (stage_of self.old.state.sessions self.old.state.names self.old.listener) line.entry.number tables.now.items
+            (stage_of self.new.state.sessions self.new.state.names self.new.listener)) }
         ensures manager { D.manager self.new.state.desk ≡ D.manager self.old.state.desk }
     {
         'tables: for table in tables {
@@ -220,7 +231,8 @@ impl<T: PartTable, B: Board<T>, D: ScriptDesk<OwnSession<T, B>>, L: Listener> Sc
         Ok(())
     }
 
-    /// Gives `table` its name by a line in place of `line`, where the table may have that name, and else does nothing.
+    /// Gives `table` its name by a line in place of `line`, where the table may have that name, and else does
+    /// nothing.
     fn name_table<H: Wait>(
         &mut self,
         rt: &H,
@@ -229,9 +241,9 @@ impl<T: PartTable, B: Board<T>, D: ScriptDesk<OwnSession<T, B>>, L: Listener> Sc
         table: &Table,
     ) -> Result<(), Fault>
         requires seats { SeatsAre B.seat D.seat }
-        ensures named { OnOk result (NamesTable (RunsLine B.seat B.view B.stack D.again D.database_of D.entries) (λ cast. cast.names.objects)
-            (record { sessions = self.old.state.sessions; names = self.old.state.names }) line.entry.number table.now
-            (record { sessions = self.new.state.sessions; names = self.new.state.names })) }
+        ensures named { OnOk result (NamesTable (play_of B.seat B.view B.stack D.again D.database_of D.entries L.hears)
+            (stage_of self.old.state.sessions self.old.state.names self.old.listener) line.entry.number table.now
+            (stage_of self.new.state.sessions self.new.state.names self.new.listener)) }
         ensures manager { D.manager self.new.state.desk ≡ D.manager self.old.state.desk }
     {
         if may_be_named(&self.state.names.objects, table) {
@@ -250,10 +262,10 @@ impl<T: PartTable, B: Board<T>, D: ScriptDesk<OwnSession<T, B>>, L: Listener> Sc
         table: &Table,
     ) -> Result<(), Fault>
         requires seats { SeatsAre B.seat D.seat }
-        ensures ran { OnOk result (RunsLine B.seat B.view B.stack D.again D.database_of D.entries
-            (record { sessions = self.old.state.sessions; names = self.old.state.names })
-            (record { number = line.entry.number; text = name_line table.now })
-            (record { sessions = self.new.state.sessions; names = self.new.state.names })) }
+        ensures ran { OnOk result (Hears L.hears self.old.listener self.new.listener (λ heard.
+            PlaysLine B.seat B.view B.stack D.again D.database_of D.entries line.entry.number
+            (record { sessions = self.old.state.sessions; names = self.old.state.names }) (name_line table.now) heard
+            (record { sessions = self.new.state.sessions; names = self.new.state.names }))) }
         ensures manager { D.manager self.new.state.desk ≡ D.manager self.old.state.desk }
     {
         let name = table.name.as_str();
@@ -264,7 +276,8 @@ impl<T: PartTable, B: Board<T>, D: ScriptDesk<OwnSession<T, B>>, L: Listener> Sc
         }
     }
 
-    /// The fault of the line of the number `number`, whose SQL can't be played. The listener hears why, `unplayed`, in place of the line.
+    /// The fault of the line of the number `number`, whose SQL can't be played. The listener hears why,
+    /// `unplayed`, in place of the line.
     pub(crate) fn refuse(&mut self, number: u32, unplayed: Unplayed) -> Fault
         ensures manager { D.manager self.new.state.desk ≡ D.manager self.old.state.desk }
     {
@@ -288,7 +301,8 @@ impl<T: PartTable, B: Board<T>, D: ScriptDesk<OwnSession<T, B>>, L: Listener> Sc
     }
 }
 
-/// Whether `table` may have its name: none of `objects` has that name, the table has no other one, and an object may have such a name.
+/// Whether `table` may have its name: none of `objects` has that name, the table has no other one, and an
+/// object may have such a name.
 fn may_be_named(objects: &ObjectNames, table: &Table) -> bool
     ensures { result ≡ may_be_named objects.now table.now }
 {

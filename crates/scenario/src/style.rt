@@ -61,8 +61,8 @@ pub struct Style {
     pub echo: bool,
     /// Whether a run prints an object of JSON for each line that it prints, instead of the line's text.
     pub json: bool,
-    /// The language in which a run draws, if it draws: a picture of who waits for whom after the rows of each `list`, or one of the whole script in
-    /// place of the answers.
+    /// The language in which a run draws, if it draws: a picture of who waits for whom after the rows of each
+    /// `list`, or one of the whole script in place of the answers.
     pub graph: Option<Drawing>,
 }
 

@@ -89,7 +89,8 @@ impl Summary {
         self.line = number;
     }
 
-    /// Notes that the wait `blocked` begins, as its session describes it: the wait becomes the last row. Sessions are known by `names`.
+    /// Notes that the wait `blocked` begins, as its session describes it: the wait becomes the last row.
+    /// Sessions are known by `names`.
     pub fn begin_wait(&mut self, names: &Names, blocked: &Blocked) -> Result<(), AllocError>
         ensures begun { OnOk result (BeginsRow names.now self.old.line blocked.now self.old.waits.items self.new.waits.items) }
         ensures refused { OnErr result (self.new.waits.items ≡ self.old.waits.items) }

@@ -1,6 +1,6 @@
 //! The answers of a script as text.
 ghost use Rattle.std.specs.Prelude.{◌≡◌, Some};
-ghost use Rattle.scenario.specs.Texts.{how_text as text_of_how, name_in, object_text, plain_text as text_of_plain, refusal_text as text_of_refusal, refused_text, row_text, said_text, standing_text as text_of_standing, hash_text};
+ghost use Rattle.scenario.specs.Texts.{how_text as text_of_how, left_text, name_in, object_text, plain_text as text_of_plain, refusal_text as text_of_refusal, refused_text, row_text, said_text, standing_text as text_of_standing, hash_text};
 
 use crate::answers::{Row, Said};
 use lock_manager::{Acquired, How, Refusal, SessionId, SlotRow, TableRow, Tag, Unlocked};
@@ -47,7 +47,8 @@ pub fn refusal_text(refusal: Refusal) -> &'static str
     }
 }
 
-/// The name of `session`, which a row or a refusal speaks of, among `names`. Each session was opened under a name.
+/// The name of `session`, which a row or a refusal speaks of, among `names`. Each session was opened under a
+/// name.
 pub fn name_of(names: &Names, session: SessionId) -> Name
     ensures { result.bytes ≡ name_in names.now session }
 {
@@ -81,7 +82,8 @@ pub fn plain_text(said: Said) -> &'static str
     }
 }
 
-/// The text of what a session is answered, without the session's own name. Other sessions are known by `names`.
+/// The text of what a session is answered, without the session's own name. Other sessions are known by
+/// `names`.
 #[derive(Clone, Copy, Drop)]
 pub struct SaidText<'a> {
     pub names: &'a Names,
@@ -236,16 +238,20 @@ impl fmt::Display for HashText {
 /// Who waits at the end of a script, and how many lines of theirs were not reached, as text.
 #[derive(Clone, Copy, Drop)]
 pub struct LeftText<'a> {
-    pub waiting: &'a [Name],
+    pub first: Name,
+    /// The others that wait.
+    pub others: &'a [Name],
     pub lines: u64,
 }
 
 impl fmt::Display for LeftText<'_> {
+    ghost output = { λ it. Some (left_text it.first it.others.now it.lines) };
+
     fn fmt<W: fmt::Write>(&self, f: &mut fmt::Formatter<W>) -> fmt::Result {
-        let mut before = "left waiting:";
-        for name in self.waiting {
-            write!(f, "{before} {name}")?;
-            before = ",";
+        let first = self.first;
+        write!(f, "left waiting: {first}")?;
+        'others: for name in self.others {
+            write!(f, ", {name}")?;
         }
         match self.lines {
             0 => Ok(()),

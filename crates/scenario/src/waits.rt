@@ -11,8 +11,8 @@ use lock_table::PartTable;
 use shared_rule::Board;
 use std::sync::Wait;
 
-/// Has `session` ask for `mode` on `tag` for `owner`, and wait where it must. The result is the session with what it is answered, or the session that
-/// waits.
+/// Has `session` ask for `mode` on `tag` for `owner`, and wait where it must. The result is the session with
+/// what it is answered, or the session that waits.
 pub fn begin<T: PartTable, B: Board<T>, H: Wait>(
     rt: &H,
     session: OwnSession<T, B>,
@@ -33,8 +33,8 @@ pub fn begin<T: PartTable, B: Board<T>, H: Wait>(
     }
 }
 
-/// Polls the wait `waiting`, and carries a cancel out that was asked for. The result is the session that waits no more with what it is answered, or
-/// the wait that goes on.
+/// Polls the wait `waiting`, and carries a cancel out that was asked for. The result is the session that
+/// waits no more with what it is answered, or the wait that goes on.
 pub fn poll_wait<T: PartTable, B: Board<T>, H: Wait>(
     rt: &H,
     waiting: OwnWaiting<T, B>,
@@ -54,7 +54,8 @@ pub fn poll_wait<T: PartTable, B: Board<T>, H: Wait>(
     }
 }
 
-/// The wait of the session `waiting` with those in its way, as the session says itself. Refused where there is no memory for the list.
+/// The wait of the session `waiting` with those in its way, as the session says itself. Refused where there
+/// is no memory for the list.
 pub fn tell_blocked<T: PartTable, B: Board<T>, H: Wait>(
     rt: &H,
     waiting: &mut OwnWaiting<T, B>,

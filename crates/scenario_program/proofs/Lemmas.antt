@@ -1,2 +1,3 @@
 -- The lemmas of the proofs.
 pub mod Printing
+pub mod Typing

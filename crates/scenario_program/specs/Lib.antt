@@ -1,3 +1,4 @@
 pub mod Failures
 pub mod Runs
 pub mod Tasks
+pub mod Typed

@@ -1,4 +1,4 @@
-use Rattle.std.specs.Prelude.{◌≡◌, ◌⊎◌, ◌||◌, ℕ, Bool, true, false, List, Option, None, IsSomeAnd, Result, Ok, Err}
+use Rattle.std.specs.Prelude.{◌≡◌, ◌⊎◌, ◌||◌, ℕ, Bool, MatchBool, true, false, List, Option, None, IsSomeAnd, OnOk, Result, Ok, Err}
 use Rattle.std.specs.Io.Buffered.{writer_contents}
 use Rattle.std.specs.Io.KnownBytes.{Keeps}
 use Rattle.std.specs.declared.io.buffered.BufWriter.{BufWriter}
@@ -8,7 +8,7 @@ use Rattle.lock_script.specs.Fault.{status_of}
 use Rattle.lock_script.specs.declared.faults.Fault.{Fault}
 use Rattle.lock_script.specs.declared.faults.Fault.TheVariants.{WriteFailed}
 use Rattle.lock_world.specs.Account.{Account}
-use Rattle.scenario.specs.Acts.{UnlessUnheard, WritesScript}
+use Rattle.scenario.specs.Acts.{UnlessUnheard, WritesKept, WritesScript}
 use Rattle.scenario.specs.Heard.{Heard}
 use Rattle.scenario.specs.Printed.{Prints}
 use Rattle.scenario_program.specs.declared.options.FailOn.{FailOn}
@@ -18,11 +18,9 @@ use Rattle.shared_rule.specs.Boards.{Seated, Stack}
 
 -- What a run of the program comes to.
 
--- A run is asked for the answers of a script alone: no line is kept, no SQL spoken, no picture drawn, and
--- nothing told at its end.
-pub record IsPlain (options : RunOptions) : Type 0 where
-  pub keep : options.turns.keep ≡ false
-  pub sql : options.turns.sql ≡ false
+-- A run is asked for what the lines of a script are answered: no picture is drawn, and no summary told at its
+-- end.
+pub record ShowsAnswers (options : RunOptions) : Type 0 where
   pub summary : options.summary ≡ false
   pub graph : options.style.graph ≡ None
 
@@ -50,10 +48,24 @@ module _
     {B : Type 0} (seat : B → Seated) (view : B → Account) (stack : B → Stack) (again : Bool) (database_of : SessionView B → ℕ) (entries : SessionView B → List Entry) where
   -- The script was run from nothing, and the text of all that was heard of it stands behind what the writer
   -- had before. The writer comes back, unless the output or the memory failed.
-  abbrev pub PrintsScript : {W : Type 0} → (W → Option (List ℕ)) → Option (List ℕ) → RunOptions → Option (List ℕ) → Result (Unit {0}) Fault → Option W → Type 0
-  PrintsScript contents script options before ended output =
+  abbrev pub PrintsAll : {W : Type 0} → (W → Option (List ℕ)) → Option (List ℕ) → RunOptions → Option (List ℕ) → Result (Unit {0}) Fault → Option W → Type 0
+  PrintsAll contents script options before ended output =
       UnlessUnheard ended (IsSomeAnd output (λ writer.
       WritesScript seat view stack again database_of entries script options.style.json options.style.echo before ended (contents writer)))
+
+  -- The script was run from nothing to its end, where lines of it are kept or what its SQL comes to is, and
+  -- the text of all that was heard of it stands there.
+  abbrev pub PrintsKept : {W : Type 0} → (W → Option (List ℕ)) → Option (List ℕ) → RunOptions → Option (List ℕ) → Result (Unit {0}) Fault → Option W → Type 0
+  PrintsKept contents script options before ended output =
+      OnOk ended (IsSomeAnd output (λ writer.
+      WritesKept seat view stack again database_of entries options.turns.sql options.turns.keep script options.style.json options.style.echo before
+      (contents writer)))
+
+  -- The script was run so, in the manner that is asked for.
+  abbrev pub PrintsScript : {W : Type 0} → (W → Option (List ℕ)) → Option (List ℕ) → RunOptions → Option (List ℕ) → Result (Unit {0}) Fault → Option W → Type 0
+  PrintsScript contents script options before ended output =
+      MatchBool (options.turns.keep || options.turns.sql) (PrintsKept contents script options before ended output)
+      (PrintsAll contents script options before ended output)
 
   -- The script was run so, and this is the status for how it ended.
   pub record RunsScript {W : Type 0} (contents : W → Option (List ℕ)) (script : Option (List ℕ)) (options : RunOptions) (before : Option (List ℕ)) (output : Option W) (status : ℕ) : Type 0 where

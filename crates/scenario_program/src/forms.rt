@@ -1,4 +1,6 @@
 //! The lines of a script and of a shell, as every help shows them: from the table of commands.
+ghost use Rattle.std.specs.Prelude.{◌≡◌};
+ghost use Rattle.scenario_program.specs.Typed.{is_leaving};
 
 use lock_script::{CommandRow, command_row, command_rows};
 use std::alloc::{AllocError, Global};
@@ -43,8 +45,8 @@ static SQL_LINES: [OtherLine; 3] = [
     },
 ];
 
-/// The words that end a shell, of which the help names the first one.
-pub static LEAVING: [&str; 4] = ["end", "quit", "exit", "\\q"];
+/// The word that ends a shell, of those that do the one that the help names.
+const LEAVING: &str = "end";
 
 /// The lines that a shell has beside the lines of a script.
 pub static SHELL_LINES: [OtherLine; 6] = [
@@ -123,13 +125,15 @@ pub fn push_shell_lines(text: &mut String) -> Result<(), AllocError> {
 }
 
 /// Whether a line that begins with `verb` ends a shell.
-pub fn ends_shell(verb: &str) -> bool {
-    LEAVING.iter().any(|word| *word == verb)
+pub fn ends_shell(verb: &str) -> bool
+    ensures { result ≡ is_leaving verb.now }
+{
+    matches!(verb, LEAVING | "quit" | "exit" | "\\q")
 }
 
 /// Adds to `text` the forms of the lines that begin with `verb`, of a script and of a shell.
 pub fn push_forms(text: &mut String, verb: &str) -> Result<(), AllocError> {
-    let verb = if ends_shell(verb) { LEAVING[0] } else { verb };
+    let verb = if ends_shell(verb) { LEAVING } else { verb };
     if let Some(row) = command_row(verb) {
         push_row(text, row)?;
     }

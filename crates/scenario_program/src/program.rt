@@ -1,8 +1,9 @@
 //! The program as a function of its words and its streams.
-ghost use Rattle.std.specs.Prelude.{◌≡◌, ◌≤◌, IfOk, None, false};
+ghost use Rattle.std.specs.Prelude.{◌≡◌, ◌≤◌, IfOk, IsSomeAnd, None, OnOk, false};
 ghost use Rattle.lock_hammer.specs.Sizes.{IsPlayable};
 ghost use Rattle.scenario.specs.Sizes.{IsForManager};
-ghost use Rattle.scenario_program.specs.Runs.{ArePassedOn, IsPlain, IsStatusOf, PrintsScript, RunsScript};
+ghost use Rattle.scenario_program.specs.Runs.{ArePassedOn, IsStatusOf, PrintsScript, RunsScript, ShowsAnswers};
+ghost use Rattle.scenario_program.specs.Typed.{WritesTyped};
 
 use crate::arguments::{NoRun, Task, parse_arguments};
 use crate::failures::{Failure, fail};
@@ -104,7 +105,7 @@ fn run_words<
             return Ok(status);
         }
         Ok(Task::Sql) => return Ok(run_statements(rt, words, input, output, errors)),
-        Ok(Task::Shell(config, reuse)) => run_typed(rt, config, reuse, input, output)?,
+        Ok(Task::Shell(config, reuse)) => run_typed(rt, config, reuse, input, output).1?,
         Ok(Task::Orders(config, options, hints)) => {
             run_all_orders(rt, config, options, hints, input, output, errors)?
         }
@@ -133,7 +134,7 @@ fn run_input<H: AllocGlobal + Wait, R: Read + Drop, W: Write + Drop, E: Write>(
     requires { IsForManager config }
     ensures ran { let B = ⟦<SeatBoard<'static, Part> as Board<Part>>⟧ in
         let D = ⟦<ManagerDesk<'static> as Desk<Session<'static>>>⟧ in
-        IsPlain options → RunsScript B.seat B.view B.stack options.turns.reuse D.database_of D.entries W.contents
+        ShowsAnswers options → RunsScript B.seat B.view B.stack options.turns.reuse D.database_of D.entries W.contents
         (R.remaining input.reader) options (W.contents output) result.0 result.1 }
     ensures status { result.1 ≤ 4 }
 {
@@ -180,7 +181,7 @@ fn play_input<H: AllocGlobal + Wait, R: Read + Drop, W: Write + Drop>(
     requires { IsForManager config }
     ensures played { let B = ⟦<SeatBoard<'static, Part> as Board<Part>>⟧ in
         let D = ⟦<ManagerDesk<'static> as Desk<Session<'static>>>⟧ in
-        IsPlain options → PrintsScript B.seat B.view B.stack options.turns.reuse D.database_of D.entries W.contents
+        ShowsAnswers options → PrintsScript B.seat B.view B.stack options.turns.reuse D.database_of D.entries W.contents
         (R.remaining reader) options (W.contents output) result.1 result.0 }
 {
     match options.style.graph {
@@ -205,7 +206,7 @@ fn print_input<H: AllocGlobal + Wait, R: Read + Drop, W: Write + Drop>(
     requires { IsForManager config }
     ensures printed { let B = ⟦<SeatBoard<'static, Part> as Board<Part>>⟧ in
         let D = ⟦<ManagerDesk<'static> as Desk<Session<'static>>>⟧ in
-        IsPlain options → PrintsScript B.seat B.view B.stack options.turns.reuse D.database_of D.entries W.contents
+        ShowsAnswers options → PrintsScript B.seat B.view B.stack options.turns.reuse D.database_of D.entries W.contents
         (R.remaining reader) options (W.contents output) result.1 result.0 }
 {
     let alloc = rt.alloc();
@@ -319,22 +320,30 @@ fn run_all_orders<H: AllocGlobal + Wait, R: Read + Drop, W: Write + Drop, E: Wri
 }
 
 /// Runs the lines of `input` as they are typed, against a lock manager of the size `config`. Where `reuse`,
-/// the numbers of closed sessions are given out again.
+/// the numbers of closed sessions are given out again. The output comes back, with all that was printed,
+/// unless writing or the memory failed.
 fn run_typed<H: AllocGlobal + Wait, R: Read + Drop, W: Write + Drop>(
     rt: &H,
     config: Config,
     reuse: bool,
     input: Source<R>,
     output: W,
-) -> Result<(), Fault>
+) -> (Option<W>, Result<(), Fault>)
     requires { IsForManager config }
+    ensures typed { let B = ⟦<SeatBoard<'static, Part> as Board<Part>>⟧ in
+        let D = ⟦<ManagerDesk<'static> as Desk<Session<'static>>>⟧ in
+        OnOk result.1 (IsSomeAnd result.0 (λ writer. WritesTyped B.seat B.view B.stack reuse D.database_of D.entries
+        input.is_terminal (R.remaining input.reader) (W.contents output) (W.contents writer))) }
 {
-    let output = BufWriter::new(rt.alloc(), output).map_err(|_| Fault::NoMemory)?;
+    let Ok(buffered) = BufWriter::new(rt.alloc(), output) else {
+        return (None, Err(Fault::NoMemory));
+    };
     let options = ShellOptions {
         is_terminal: input.is_terminal,
         reuse,
     };
-    run_shell(rt, input.reader, output, config, options)
+    let (buffered, ended) = run_shell(rt, input.reader, buffered, config, options);
+    pass_on(buffered, ended)
 }
 
 /// Prints the man page to `output`.

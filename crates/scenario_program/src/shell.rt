@@ -1,18 +1,21 @@
 //! A shell: the lines of a script as somebody types them, with help, and with what is wrong with a bad one.
-ghost use Rattle.std.specs.Prelude.{◌≡◌};
+ghost use Rattle.std.specs.Prelude.{◌≡◌, ℕ, List, IfOk, OnOk, Ok, false, true};
 ghost use Rattle.lock_manager.specs.Crews.{SeatsAre};
+ghost use Rattle.scenario.specs.Heard.{Hears, HearsAll, Helped};
+ghost use Rattle.scenario.specs.Scripts.{words_in};
 ghost use Rattle.scenario.specs.Sizes.{IsForManager};
+ghost use Rattle.scenario_program.specs.Typed.{AnswersLine, AsksFor, IsTypedHeard, Leaves, WritesTyped, at_terminal};
 
 use crate::forms::ends_shell;
 use crate::hints::{Reader, push_correction};
 use crate::topics::help;
-use lock_manager::{Config, OwnSession};
+use lock_manager::{Config, Desk, ManagerDesk, OwnSession, Part, Session};
 use lock_script::{
     Defect, Fault, LineReader, Name, NamedObject, ObjectNames, OpenSessions, parse, split_words,
 };
 use lock_table::PartTable;
 use scenario::{Act, Listener, Output, Scene, ScriptDesk, drive};
-use shared_rule::Board;
+use shared_rule::{Board, SeatBoard};
 use std::alloc::{AllocError, Global};
 use std::io::{Read, Write};
 use std::sync::Wait;
@@ -43,7 +46,9 @@ enum Typed {
 
 impl Shell {
     /// What `line` asks of the shell.
-    fn understand(self, line: &str) -> Result<Typed, AllocError> {
+    fn understand(self, line: &str) -> Result<Typed, AllocError>
+        ensures { IfOk result (AsksFor (words_in line.now)) }
+    {
         let words = split_words(line);
         match words.as_slice().split_first() {
             Some((verb, [])) if ends_shell(*verb) => Ok(Typed::End),
@@ -104,23 +109,29 @@ pub struct ShellOptions {
 /// wrong with a bad line is written to `writer`, with the nearest good word, and the shell goes on. Where
 /// `options` say that somebody types, the shell has a prompt; where they say that numbers are reused, a new
 /// session has the lowest number that no open session has. The shell ends with the line `end`, the input, or
-/// another fault, and then the sessions that are open are closed in silence.
+/// another fault, and then the sessions that are open are closed in silence. The writer comes back, with all
+/// that was written.
 pub fn run_shell<H: AllocGlobal + Wait, R: Read + Drop, W: Write + Drop>(
     rt: &H,
     reader: R,
     writer: W,
     config: Config,
     options: ShellOptions,
-) -> Result<(), Fault>
+) -> (W, Result<(), Fault>)
     requires { IsForManager config }
+    ensures written { let B = ⟦<SeatBoard<'static, Part> as Board<Part>>⟧ in
+        let D = ⟦<ManagerDesk<'static> as Desk<Session<'static>>>⟧ in
+        OnOk result.1 (WritesTyped B.seat B.view B.stack options.reuse D.database_of D.entries options.is_terminal
+        (R.remaining reader) (W.contents writer) (W.contents result.0)) }
 {
     let shell = Shell {
         alloc: rt.alloc(),
         is_terminal: options.is_terminal,
     };
+    let output = Output::new(writer);
     let typed = Typing { reader, shell };
-    let (_, ended) = drive(rt, config, options.reuse, Output::new(writer), typed);
-    ended
+    let (output, ended) = drive(rt, config, options.reuse, output, typed);
+    (output.into_writer(), ended)
 }
 
 /// The lines that somebody types, which a shell answers.
@@ -131,9 +142,11 @@ struct Typing<R> {
 }
 
 impl<R: Read + Drop, L: Listener> Act<L> for Typing<R> {
-    ghost use Rattle.std.specs.Prelude.{⊤};
+    ghost use Rattle.scenario_program.specs.Typed.{IsTypedHeard};
 
-    ghost acts = { λ _ _ _ _ _ _ _ _ _ _ _ _. ⊤ };
+    ghost acts = { λ B seat view stack again database_of entries typing old before ended now.
+        IsTypedHeard seat view stack again database_of entries L.hears typing.shell.is_terminal (R.remaining typing.reader) old
+        before ended now };
 
     fn act<T: PartTable, B: Board<T>, D: ScriptDesk<OwnSession<T, B>>, H: Wait>(
         self,
@@ -156,6 +169,9 @@ fn converse<
     R: Read + Drop,
 >(rt: &H, scene: &mut Scene<T, B, D, L>, reader: R, shell: Shell) -> Result<(), Fault>
     requires seats { SeatsAre B.seat D.seat }
+    ensures heard { IsTypedHeard B.seat B.view B.stack D.again D.database_of D.entries L.hears shell.is_terminal (R.remaining reader)
+        (record { sessions = scene.old.state.sessions; names = scene.old.state.names }) scene.old.listener result
+        scene.new.listener }
     ensures manager { D.manager scene.new.state.desk ≡ D.manager scene.old.state.desk }
 {
     let mut lines = LineReader::new(reader);
@@ -172,11 +188,14 @@ fn converse<
             Err(fault) => pass_over(&mut scene.listener, fault)?,
         }
     }
-    Ok(())
+    // (the reader refuses the line after a million)
+    Err(Fault::ReadFailed)
 }
 
 /// Has `listener` print `text` at the terminal of `shell`, if it has one.
-fn prompt<L: Listener>(listener: &mut L, shell: Shell, text: &'static str) -> Result<(), Fault> {
+fn prompt<L: Listener>(listener: &mut L, shell: Shell, text: &'static str) -> Result<(), Fault>
+    ensures { OnOk result (HearsAll L.hears listener.old (at_terminal shell.is_terminal text.now) listener.new) }
+{
     if shell.is_terminal {
         listener.tell(text)
     } else {
@@ -186,7 +205,10 @@ fn prompt<L: Listener>(listener: &mut L, shell: Shell, text: &'static str) -> Re
 
 /// Has the shell go on after a line that was read to its end and isn't ASCII text, where that is the `fault`.
 /// Other faults end the shell.
-fn pass_over<L: Listener>(listener: &mut L, fault: Fault) -> Result<(), Fault> {
+fn pass_over<L: Listener>(listener: &mut L, fault: Fault) -> Result<(), Fault>
+    ensures passed { OnOk result ((line : ℕ) × (fault ≡ Fault.BadLine line Defect.NotAsciiText)) }
+    ensures told { OnOk result ((text : List ℕ) × L.hears listener.old (Helped text) listener.new) }
+{
     match fault {
         Fault::BadLine {
             what: Defect::NotAsciiText,
@@ -204,6 +226,11 @@ fn answer<T: PartTable, B: Board<T>, D: ScriptDesk<OwnSession<T, B>>, L: Listene
     shell: Shell,
 ) -> Result<bool, Fault>
     requires seats { SeatsAre B.seat D.seat }
+    ensures answered { result ≡ Ok false → (¬ Leaves (words_in line.now))
+        × Hears L.hears scene.old.listener scene.new.listener (λ heard. AnswersLine B.seat B.view B.stack D.again D.database_of D.entries
+        (record { sessions = scene.old.state.sessions; names = scene.old.state.names }) line.now heard
+        (record { sessions = scene.new.state.sessions; names = scene.new.state.names })) }
+    ensures leaves { result ≡ Ok true → Leaves (words_in line.now) × (scene.new.listener ≡ scene.old.listener) }
     ensures manager { D.manager scene.new.state.desk ≡ D.manager scene.old.state.desk }
 {
     match shell.understand(line) {
@@ -228,6 +255,10 @@ fn answer_line<T: PartTable, B: Board<T>, D: ScriptDesk<OwnSession<T, B>>, L: Li
     shell: Shell,
 ) -> Result<(), Fault>
     requires seats { SeatsAre B.seat D.seat }
+    ensures answered { OnOk result (Hears L.hears scene.old.listener scene.new.listener (λ heard.
+        AnswersLine B.seat B.view B.stack D.again D.database_of D.entries
+        (record { sessions = scene.old.state.sessions; names = scene.old.state.names }) line.now heard
+        (record { sessions = scene.new.state.sessions; names = scene.new.state.names }))) }
     ensures manager { D.manager scene.new.state.desk ≡ D.manager scene.old.state.desk }
 {
     let state = &scene.state;

@@ -13,10 +13,10 @@ use Rattle.shared_rule.specs.Boards.{Seated, Stack}
 use Rattle.scenario.specs.Answers.{Cast}
 use Rattle.scenario.specs.Heard.{Heard, Hears, HearsAll, IsEnd, IsUnheard, Line}
 use Rattle.scenario.specs.Played.{Plays}
-use Rattle.scenario.specs.Scripts.{AreFirstLines, AreNextLines, IsBadLine, IsScriptHeard, PlaysLine, PlaysLines, RunsLine, words_in}
+use Rattle.scenario.specs.Scripts.{AreFirstLines, AreNextLines, IsBadLine, IsScriptHeard, PlaysLine, PlaysLines, words_in}
 use Rattle.scenario.proofs.Lemmas.Hearing.{hears-append}
 
-moved : (n k : ℕ) → n + suc k ≡ (n + 1) + k
+pub moved : (n k : ℕ) → n + suc k ≡ (n + 1) + k
 moved n k = omega arith
 
 -- one more line of a script
@@ -80,13 +80,6 @@ module _
       (number : ℕ) (old : Cast B) (before now : L) (text : List ℕ) → hears before (Line number text) now → IsSilent (words_in text) →
       Hears hears before now (λ heard. PlaysLine seat view stack again database_of entries number old text heard old)
   line-silent number old before now text line silent = (Line number text ∷ [], inl (silent, refl, refl), (now, line, refl))
-
-  -- what is heard and played is run
-  pub runs-heard :
-      (number : ℕ) (old new : Cast B) (before now : L) (text : List ℕ) →
-      Hears hears before now (λ heard. PlaysLine seat view stack again database_of entries number old text heard new) →
-      RunsLine seat view stack again database_of entries old (record { number = number; text = text }) new
-  runs-heard number old new before now text (heard, plays, rest) = (heard, plays)
 
   -- one more line is played
   pub plays-next :

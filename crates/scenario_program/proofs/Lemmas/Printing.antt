@@ -1,6 +1,6 @@
 -- What a witness passes on of a script is printed, and leaves the buffer.
 use Rattle.std.proofs.Common.{◌≡◌, ◌∙◌, ℕ, List, [], ◌∷◌, ap, append-nil, refl, subst, sym, None, Some, IfSome, inl, inr}
-use Rattle.std.specs.Prelude.{Bool, Option, Result, Ok, Err, IsSomeAnd}
+use Rattle.std.specs.Prelude.{◌||◌, Bool, true, false, IsTrue, MatchBool, OnOk, Option, Result, Ok, Err, IsSomeAnd}
 use Rattle.std.specs.Io.Buffered.{writer_buffer, writer_contents, writer_inner}
 use Rattle.std.specs.Io.KnownBytes.{Appends, Keeps, append_known}
 use Rattle.std.specs.declared.io.buffered.BufWriter.{BufWriter}
@@ -11,13 +11,15 @@ use Rattle.lock_script.specs.declared.faults.Fault.{Fault}
 use Rattle.lock_script.specs.declared.faults.Fault.TheVariants.{BadLine, ReadFailed, WriteFailed, NoMemory, GateHeld}
 use Rattle.lock_world.specs.Account.{Account}
 use Rattle.shared_rule.specs.Boards.{Seated, Stack}
-use Rattle.scenario.specs.Acts.{UnlessUnheard, WritesScript, no_cast}
-use Rattle.scenario.specs.Heard.{Heard, HearsAll}
+use Rattle.scenario.specs.Acts.{IsKeptHeard, Writes, no_cast}
+use Rattle.scenario.specs.Heard.{Heard, Hears, HearsAll}
 use Rattle.scenario.specs.Printed.{IsFormOf, Prints}
-use Rattle.scenario.specs.Scripts.{IsScriptHeard}
+use Rattle.scenario.specs.Scripts.{IsScriptHeard, PlaysScript}
+use Rattle.scenario.specs.Staged.{PlaysKept}
 use Rattle.scenario.specs.Written.{text_of_all}
-use Rattle.scenario.proofs.Lemmas.Printing.{script-written}
-use Rattle.scenario_program.specs.Runs.{ArePassedOn, PassesOn, PrintsScript}
+use Rattle.scenario.proofs.Lemmas.InTurn.{on-ok}
+use Rattle.scenario.proofs.Lemmas.Printing.{heard-written}
+use Rattle.scenario_program.specs.Runs.{ArePassedOn, PassesOn, PrintsAll, PrintsKept, PrintsScript}
 use Rattle.scenario_program.specs.declared.options.RunOptions.{RunOptions}
 use Rattle.scenario_program.specs.declared.outcome.Witness.{Witness}
 
@@ -40,14 +42,12 @@ begins-empty {W} {A} contents writer buffered output same inner empty =
     ∙ (ap (λ (it : List ℕ). append_known (contents (writer_inner buffered)) it) empty
     ∙ (append-nothing (contents (writer_inner buffered)) ∙ ap (λ (it : W). contents it) inner))
 
--- Q follows in each case in which P stands
-unless-unheard : (ended : Result (Unit {0}) Fault) (P Q : Type 0) → (P → Q) → UnlessUnheard ended P → UnlessUnheard ended Q
-unless-unheard (Ok ended) P Q follows it = follows it
-unless-unheard (Err (BadLine line what)) P Q follows it = follows it
-unless-unheard (Err ReadFailed) P Q follows it = follows it
-unless-unheard (Err WriteFailed) P Q follows it = tt
-unless-unheard (Err NoMemory) P Q follows it = tt
-unless-unheard (Err GateHeld) P Q follows it = tt
+-- What stands where a line is kept, and where none is, stands in both cases.
+by-manner :
+    (keep sql : Bool) (P Q : Type 0) → (keep ≡ false → sql ≡ false → Q) → (IsTrue (keep || sql) → P) → MatchBool (keep || sql) P Q
+by-manner false false P Q plain kept = plain refl refl
+by-manner false true P Q plain kept = kept refl
+by-manner true sql P Q plain kept = kept refl
 
 module _ {W : Type 0} (contents : W → Option (List ℕ)) where
   all-passed-on :
@@ -57,56 +57,92 @@ module _ {W : Type 0} (contents : W → Option (List ℕ)) where
   all-passed-on old new (first ∷ others) plain (next, here, rest) =
       (next.output, here.prints plain, all-passed-on next new others (here.plain plain) rest)
 
-module _
-    {B W : Type 0} (seat : B → Seated) (view : B → Account) (stack : B → Stack) (again : Bool) (database_of : SessionView B → ℕ) (entries : SessionView B → List Entry)
-    (contents : W → Option (List ℕ)) where
-  -- What a witness with no summary hears of a script, its output hears.
-  script-passed-on :
-      (script : Option (List ℕ)) (old new : Witness W) (ended : Result (Unit {0}) Fault) → old.summary ≡ None →
-      IsScriptHeard seat view stack again database_of entries (PassesOn contents) script no_cast old ended new →
-      IsScriptHeard seat view stack again database_of entries (Prints contents) script no_cast old.output ended new.output
-  script-passed-on script old new (Ok ended) plain (heard, plays, hears) = (heard, plays, all-passed-on contents old new heard plain hears)
-  script-passed-on script old new (Err (BadLine line what)) plain (heard, plays, hears) = (heard, plays, all-passed-on contents old new heard plain hears)
-  script-passed-on script old new (Err ReadFailed) plain (heard, plays, hears) = (heard, plays, all-passed-on contents old new heard plain hears)
-  script-passed-on script old new (Err WriteFailed) plain heard = tt
-  script-passed-on script old new (Err NoMemory) plain heard = tt
-  script-passed-on script old new (Err GateHeld) plain heard = tt
+  -- What a witness with no summary hears, its output hears.
+  passed-on :
+      (IsSo : List Heard → Type 0) (old new : Witness W) → old.summary ≡ None → Hears (PassesOn contents) old new IsSo →
+      Hears (Prints contents) old.output new.output IsSo
+  passed-on IsSo old new plain (heard, is_so, hears) = (heard, is_so, all-passed-on old new heard plain hears)
 
-module _
-    {B W : Type 0} (seat : B → Seated) (view : B → Account) (stack : B → Stack) (again : Bool) (database_of : SessionView B → ℕ) (entries : SessionView B → List Entry)
-    (contents : W → Option (List ℕ)) where
   -- What was written stands in a writer that keeps it.
-  kept-written :
-      (script : Option (List ℕ)) (json is_echoing : Bool) (before after : Option (List ℕ)) (ended : Result (Unit {0}) Fault) (output : Option W) →
-      IsSomeAnd output (λ writer. Keeps after (contents writer)) →
-      WritesScript seat view stack again database_of entries script json is_echoing before ended after →
-      IsSomeAnd output (λ writer. WritesScript seat view stack again database_of entries script json is_echoing before ended (contents writer))
-  kept-written script json is_echoing before after ended None kept it = kept
-  kept-written script json is_echoing before after ended (Some writer) kept it = record {
+  pub kept-written :
+      (IsSo : List Heard → Type 0) (json is_echoing : Bool) (before after : Option (List ℕ)) (output : Option W) →
+      IsSomeAnd output (λ writer. Keeps after (contents writer)) → Writes IsSo json is_echoing before after →
+      IsSomeAnd output (λ writer. Writes IsSo json is_echoing before (contents writer))
+  kept-written IsSo json is_echoing before after None kept it = kept
+  kept-written IsSo json is_echoing before after (Some writer) kept it = record {
     heard = it.heard;
-    plays = it.plays;
+    is_so = it.is_so;
     form = it.form;
     is_form = it.is_form;
     written = still-written (text_of_all it.form is_echoing 0 it.heard) before after (contents writer) it.written kept;
   }
 
-  -- What a witness at a buffer heard of a script stands in the writer behind the buffer, which has got it
-  -- all.
+module _
+    {B W A : Type 0} (seat : B → Seated) (view : B → Account) (stack : B → Stack) (again : Bool) (database_of : SessionView B → ℕ) (entries : SessionView B → List Entry)
+    (contents : W → Option (List ℕ)) (script : Option (List ℕ)) (options : RunOptions) (old new : Witness (BufWriter W A)) (output : Option W)
+    (plain : old.summary ≡ None) (is_form : IsFormOf options.style.json old.output.form) (echo : old.output.is_echoing ≡ options.style.echo)
+    (line : old.output.line ≡ 0) (kept : IsSomeAnd output (λ writer. Keeps (writer_contents contents new.output.writer) (contents writer))) where
+  -- What a witness at a buffer heard stands in the writer behind the buffer, which has got it all.
+  heard-printed :
+      (IsSo : List Heard → Type 0) → Hears (PassesOn (writer_contents contents)) old new IsSo →
+      IsSomeAnd output (λ writer. Writes IsSo options.style.json options.style.echo (writer_contents contents old.output.writer) (contents writer))
+  heard-printed IsSo heard =
+      kept-written contents IsSo options.style.json options.style.echo (writer_contents contents old.output.writer) (writer_contents contents new.output.writer) output kept
+      (heard-written (writer_contents contents) IsSo options.style.json options.style.echo old.output new.output is_form echo line
+      (passed-on (writer_contents contents) IsSo old new plain heard))
+
+  all-printed :
+      (ended : Result (Unit {0}) Fault) → IsScriptHeard seat view stack again database_of entries (PassesOn (writer_contents contents)) script no_cast old ended new →
+      PrintsAll seat view stack again database_of entries contents script options (writer_contents contents old.output.writer) ended output
+  all-printed (Ok done) heard = heard-printed (PlaysScript seat view stack again database_of entries script no_cast (Ok done)) heard
+  all-printed (Err (BadLine number what)) heard =
+      heard-printed (PlaysScript seat view stack again database_of entries script no_cast (Err (BadLine number what))) heard
+  all-printed (Err ReadFailed) heard = heard-printed (PlaysScript seat view stack again database_of entries script no_cast (Err ReadFailed)) heard
+  all-printed (Err WriteFailed) heard = tt
+  all-printed (Err NoMemory) heard = tt
+  all-printed (Err GateHeld) heard = tt
+
+  in-manner :
+      (ended : Result (Unit {0}) Fault) →
+      (options.turns.keep ≡ false → options.turns.sql ≡ false →
+      IsScriptHeard seat view stack again database_of entries (PassesOn (writer_contents contents)) script no_cast old ended new) →
+      (IsTrue (options.turns.keep || options.turns.sql) → OnOk ended
+      (IsKeptHeard seat view stack again database_of entries (PassesOn (writer_contents contents)) options.turns.sql options.turns.keep script no_cast old new)) →
+      PrintsScript seat view stack again database_of entries contents script options (writer_contents contents old.output.writer) ended output
+  in-manner ended heard in-turn =
+      by-manner options.turns.keep options.turns.sql
+      (PrintsKept seat view stack again database_of entries contents script options (writer_contents contents old.output.writer) ended output)
+      (PrintsAll seat view stack again database_of entries contents script options (writer_contents contents old.output.writer) ended output)
+      (λ no-keep no-sql. all-printed ended (heard no-keep no-sql))
+      (λ keeps. on-ok ended
+      (heard-printed (PlaysKept seat view stack again database_of entries options.turns.sql options.turns.keep script no_cast)) (in-turn keeps))
+
+module _
+    {B W : Type 0} (seat : B → Seated) (view : B → Account) (stack : B → Stack) (again : Bool) (database_of : SessionView B → ℕ) (entries : SessionView B → List Entry)
+    (contents : W → Option (List ℕ)) where
+  -- of a run that failed to write nothing is said
+  none-written :
+      (script : Option (List ℕ)) (options : RunOptions) (before : Option (List ℕ)) (output : Option W) →
+      PrintsScript seat view stack again database_of entries contents script options before (Err WriteFailed) output
+  none-written script options before output = by-manner options.turns.keep options.turns.sql
+      (PrintsKept seat view stack again database_of entries contents script options before (Err WriteFailed) output)
+      (PrintsAll seat view stack again database_of entries contents script options before (Err WriteFailed) output) (λ _ _. tt) (λ _. tt)
+
+  -- What a witness at a buffer heard of a script stands in the writer behind the buffer, unless that failed.
   pub script-printed :
       {A : Type 0} (script : Option (List ℕ)) (options : RunOptions) (before : Option (List ℕ)) (old new : Witness (BufWriter W A))
       (ended last : Result (Unit {0}) Fault) (output : Option W) → old.summary ≡ None → IsFormOf options.style.json old.output.form →
       old.output.is_echoing ≡ options.style.echo → old.output.line ≡ 0 → writer_contents contents old.output.writer ≡ before →
-      IsScriptHeard seat view stack again database_of entries (PassesOn (writer_contents contents)) script no_cast old ended new →
+      (options.turns.keep ≡ false → options.turns.sql ≡ false →
+      IsScriptHeard seat view stack again database_of entries (PassesOn (writer_contents contents)) script no_cast old ended new) →
+      (IsTrue (options.turns.keep || options.turns.sql) → OnOk ended
+      (IsKeptHeard seat view stack again database_of entries (PassesOn (writer_contents contents)) options.turns.sql options.turns.keep script no_cast old new)) →
       ArePassedOn contents new.output.writer ended output last →
       PrintsScript seat view stack again database_of entries contents script options before last output
-  script-printed script options before old new ended last output plain is_form echo line begins heard (inr failed) =
-      subst (λ (it : Result (Unit {0}) Fault). PrintsScript seat view stack again database_of entries contents script options before it output) (sym failed) tt
-  script-printed script options before old new ended last output plain is_form echo line begins heard (inl (same, kept)) =
+  script-printed script options before old new ended last output plain is_form echo line begins heard in-turn (inr failed) =
+      subst (λ (it : Result (Unit {0}) Fault). PrintsScript seat view stack again database_of entries contents script options before it output) (sym failed)
+      (none-written script options before output)
+  script-printed script options before old new ended last output plain is_form echo line begins heard in-turn (inl (same, kept)) =
       subst (λ (it : Result (Unit {0}) Fault). PrintsScript seat view stack again database_of entries contents script options before it output) (sym same)
       (subst (λ (it : Option (List ℕ)). PrintsScript seat view stack again database_of entries contents script options it ended output) begins
-      (unless-unheard ended
-      (WritesScript seat view stack again database_of entries script options.style.json options.style.echo (writer_contents contents old.output.writer) ended (writer_contents contents new.output.writer))
-      (IsSomeAnd output (λ writer. WritesScript seat view stack again database_of entries script options.style.json options.style.echo (writer_contents contents old.output.writer) ended (contents writer)))
-      (kept-written script options.style.json options.style.echo (writer_contents contents old.output.writer) (writer_contents contents new.output.writer) ended output kept)
-      (script-written seat view stack again database_of entries (writer_contents contents) script options.style.json options.style.echo old.output new.output ended is_form echo line
-      (script-passed-on seat view stack again database_of entries (writer_contents contents) script old new ended plain heard))))
+      (in-manner seat view stack again database_of entries contents script options old new output plain is_form echo line kept ended heard in-turn))

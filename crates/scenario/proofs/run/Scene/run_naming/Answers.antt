@@ -1,9 +1,9 @@
 use Rattle.std.proofs.Common.{◌∙◌, ℕ, List, ◌++◌, ap, subst}
 use Rattle.std.specs.Prelude.{codes}
 use Rattle.modes_core.specs.TagText.{tag_text}
-use Rattle.scenario.specs.Scripts.{RunsLine}
+use Rattle.scenario.specs.Heard.{Hears}
+use Rattle.scenario.specs.Scripts.{PlaysLine}
 use Rattle.scenario.proofs.Lemmas.InTurn.{on-ok}
-use Rattle.scenario.proofs.Lemmas.Lines.{runs-heard}
 use Rattle.scenario.proofs.run.Scene.run_naming.Goals as goal
 
 pub returns-in-Ok-clause-ran : goal.returns-in-Ok-clause-ran
@@ -12,10 +12,7 @@ returns-in-Ok-clause-ran g c =
     ∙ ap (λ (name : List ℕ). codes "name " ++ (name ++ (codes " " ++ tag_text c.args.table.now.tag))) c.as_str-name.ensures.value in
     on-ok c.run_line.result
     (λ played. subst
-    (λ (text : List ℕ). RunsLine g.B.Board.seat g.B.Board.view g.B.Board.stack g.D.ScriptDesk.again g.D.ScriptDesk.database_of g.D.ScriptDesk.entries
-    (record { sessions = c.args.self.now.state.sessions; names = c.args.self.now.state.names })
-    (record { number = c.args.line.number; text = text })
-    (record { sessions = c.run_line.new.self.state.sessions; names = c.run_line.new.self.state.names })) says
-    (runs-heard g.B.Board.seat g.B.Board.view g.B.Board.stack g.D.ScriptDesk.again g.D.ScriptDesk.database_of g.D.ScriptDesk.entries g.L.Listener.hears
-    c.args.line.number (record { sessions = c.args.self.now.state.sessions; names = c.args.self.now.state.names }) (record { sessions = c.run_line.new.self.state.sessions; names = c.run_line.new.self.state.names }) c.args.self.now.listener c.run_line.new.self.listener
-    c.as_str.result.now played)) c.run_line.ensures.played
+    (λ (text : List ℕ). Hears g.L.Listener.hears c.args.self.now.listener c.run_line.new.self.listener (λ heard.
+    PlaysLine g.B.Board.seat g.B.Board.view g.B.Board.stack g.D.ScriptDesk.again g.D.ScriptDesk.database_of g.D.ScriptDesk.entries c.args.line.number
+    (record { sessions = c.args.self.now.state.sessions; names = c.args.self.now.state.names }) text heard
+    (record { sessions = c.run_line.new.self.state.sessions; names = c.run_line.new.self.state.names }))) says played) c.run_line.ensures.played

@@ -1,15 +1,16 @@
-use Rattle.std.proofs.Common.{inl}
-use Rattle.scenario.proofs.Lemmas.InTurn.{on-ok}
-use Rattle.scenario.proofs.Lemmas.Lines.{runs-heard}
+use Rattle.scenario.specs.Staged.{stage_of}
+use Rattle.scenario.proofs.Lemmas.InTurn.{match-false, match-true, on-ok}
 use Rattle.scenario.proofs.run.Scene.run_plain.Goals as goal
 
-pub returns-clause-taken : goal.returns-clause-taken
-returns-clause-taken g c =
+pub returns-then-keeping-clause-done : goal.returns-then-keeping-clause-done
+returns-then-keeping-clause-done g c =
+    on-ok c.take_in.result (λ taken. match-true _ _ _ c.if-keeping.true taken) c.take_in.ensures.taken
+
+pub returns-clause-done : goal.returns-clause-done
+returns-clause-done g c =
     on-ok c.run_ready.result
-    (λ ran. inl (
-      record { sessions = c.run_line.new.self.state.sessions; names = c.run_line.new.self.state.names },
-      runs-heard g.B.Board.seat g.B.Board.view g.B.Board.stack g.D.ScriptDesk.again g.D.ScriptDesk.database_of g.D.ScriptDesk.entries g.L.Listener.hears
-          c.args.line.number (record { sessions = c.args.self.now.state.sessions; names = c.args.self.now.state.names }) (record { sessions = c.run_line.new.self.state.sessions; names = c.run_line.new.self.state.names }) c.args.self.now.listener c.run_line.new.self.listener
-          c.args.line.text.now c.in_ok-run_line.ensures.played,
+    (λ ran. match-false _ _ _ c.if-keeping.false (
+      (stage_of c.run_line.new.self.state.sessions c.run_line.new.self.state.names c.run_line.new.self.listener),
+      c.in_ok-run_line.ensures.played,
       ran,
     )) c.run_ready.ensures.ran

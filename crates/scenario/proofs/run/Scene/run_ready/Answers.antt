@@ -1,18 +1,23 @@
-use Rattle.std.proofs.Common.{◌∙◌, string_bytes}
-use Rattle.scenario.specs.Scripts.{RunsLine}
-use Rattle.scenario.proofs.Lemmas.InTurn.{runs-one}
-use Rattle.scenario.proofs.Lemmas.Lines.{runs-heard}
+use Rattle.std.proofs.Common.{◌∙◌, rules}
+use Rattle.scenario.specs.InTurn.{said_by}
+use Rattle.scenario.specs.Staged.{play_of, stage_of}
+use Rattle.scenario.proofs.Lemmas.InTurn.{have-run-more, is-next, runs-all}
 use Rattle.scenario.proofs.run.Scene.run_ready.Goals as goal
 
 pub ready-preserved : goal.ready-preserved
 ready-preserved g c = record {
   manager = c.run_line.ensures.manager ∙ c.ready.invariant.manager;
-  ran = runs-one (RunsLine g.B.Board.seat g.B.Board.view g.B.Board.stack g.D.ScriptDesk.again g.D.ScriptDesk.database_of g.D.ScriptDesk.entries)
-      (record { sessions = c.args.self.now.state.sessions; names = c.args.self.now.state.names })
-      (record { sessions = c.ready.self.state.sessions; names = c.ready.self.state.names })
-      (record { sessions = c.run_line.new.self.state.sessions; names = c.run_line.new.self.state.names })
-      c.args.kept.now c.ready.kept c.take_ready.new.self c.in-Some.field-0-0.bytes c.in-Some.line c.ready.invariant.ran c.in-Some.ensures.order
-      (runs-heard g.B.Board.seat g.B.Board.view g.B.Board.stack g.D.ScriptDesk.again g.D.ScriptDesk.database_of g.D.ScriptDesk.entries g.L.Listener.hears
-      c.in-Some.line.number (record { sessions = c.ready.self.state.sessions; names = c.ready.self.state.names }) (record { sessions = c.run_line.new.self.state.sessions; names = c.run_line.new.self.state.names }) c.ready.self.listener c.run_line.new.self.listener
-      (string_bytes c.in-Some.line.text) (rw c.as_str.ensures.value at c.in_ok-run_line.ensures.played));
+  ran = have-run-more (play_of g.B.Board.seat g.B.Board.view g.B.Board.stack g.D.ScriptDesk.again g.D.ScriptDesk.database_of g.D.ScriptDesk.entries g.L.Listener.hears)
+      (stage_of c.args.self.now.state.sessions c.args.self.now.state.names c.args.self.now.listener) (stage_of c.ready.self.state.sessions c.ready.self.state.names c.ready.self.listener)
+      (stage_of c.run_line.new.self.state.sessions c.run_line.new.self.state.names c.run_line.new.self.listener) c.args.kept.now c.ready.kept c.take_ready.new.self c.in-Some.field-0-0.bytes (said_by c.in-Some.line)
+      c.ready.invariant.ran
+      (is-next c.ready.self.state.sessions.waiting c.ready.kept c.take_ready.new.self c.in-Some.field-0-0.bytes c.in-Some.line c.in-Some.ensures.rests
+      c.in-Some.ensures.lowest c.in-Some.ensures.order)
+      (rw c.as_str.ensures.value at c.in_ok-run_line.ensures.played);
 }
+
+pub returns-clause-ran : goal.returns-clause-ran
+returns-clause-ran g c =
+    runs-all (play_of g.B.Board.seat g.B.Board.view g.B.Board.stack g.D.ScriptDesk.again g.D.ScriptDesk.database_of g.D.ScriptDesk.entries g.L.Listener.hears)
+    (stage_of c.args.self.now.state.sessions c.args.self.now.state.names c.args.self.now.listener) (stage_of c.ready.self.state.sessions c.ready.self.state.names c.ready.self.listener)
+    c.args.kept.now c.ready.kept c.take_ready.new.self c.ready.invariant.ran (search rules) (search rules)

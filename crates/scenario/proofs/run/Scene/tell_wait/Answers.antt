@@ -1,4 +1,4 @@
-use Rattle.std.proofs.Common.{[], ◌∷◌, inl, inr, refl}
+use Rattle.std.proofs.Common.{[], ◌∷◌, inr, refl}
 use Rattle.std.proofs.lemmas.Result.{on_ok_weaker}
 use Rattle.scenario.specs.Heard.{Behind}
 use Rattle.scenario.proofs.run.Scene.tell_wait.Goals as goal

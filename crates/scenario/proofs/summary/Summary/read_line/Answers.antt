@@ -1,4 +1,4 @@
-use Rattle.std.proofs.Common.{rules, arith, ◌≤◌}
+use Rattle.std.proofs.Common.{rules, ◌≤◌}
 use Rattle.scenario.proofs.Lemmas.InTime.{in_time-later}
 use Rattle.scenario.proofs.summary.Summary.read_line.Goals as goal
 

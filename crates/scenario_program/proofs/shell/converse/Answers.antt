@@ -1,0 +1,67 @@
+use Rattle.std.proofs.Common.{◌∙◌, ◌++◌, [], ◌∷◌, codes, inl, inr, refl, rules, subst, sym, None, Some}
+use Rattle.scenario.specs.Heard.{HearsAll, Helped}
+use Rattle.scenario.proofs.Lemmas.Hearing.{hears-append, hears-one}
+use Rattle.scenario.proofs.Lemmas.InTurn.{on-ok}
+use Rattle.scenario_program.specs.Typed.{at_terminal, prompt}
+use Rattle.scenario_program.proofs.Lemmas.Typing.{known, passed-over, typed-all, typed-next}
+use Rattle.scenario_program.proofs.shell.converse.Goals as goal
+use Rattle.scenario_program.proofs.shell.converse.Goals.{in-Ok-Some+in_ok-answer-in-Ok-Some+else-branch, in-Err+in_ok-pass_over-in-Err}
+
+pub returns-then-branch-clause-heard : goal.returns-then-branch-clause-heard
+returns-then-branch-clause-heard g c =
+    let leaves = c.answer.ensures.leaves (search rules) in
+    typed-all g.B.Board.seat g.B.Board.view g.B.Board.stack g.D.ScriptDesk.again g.D.ScriptDesk.database_of g.D.ScriptDesk.entries c.args.shell.is_terminal g.L.Listener.hears (g.R.Read.remaining c.args.reader)
+    (record { sessions = c.args.scene.now.state.sessions; names = c.args.scene.now.state.names }) c.args.scene.now.listener
+    c.lines.lines.number c.lines.lines.source.left (record { sessions = c.lines.scene.state.sessions; names = c.lines.scene.state.names })
+    c.lines.scene.listener c.answer.new.scene.listener (at_terminal c.args.shell.is_terminal prompt) c.lines.invariant.so_far
+    (inl (c.in-Ok-Some.line, known (g.R.Read.remaining c.args.reader) (rw c.in-Ok-Some.field-0-is at c.in-Ok-Some.ensures.reads), rw c.as_str.ensures at leaves.0, refl))
+    (subst (λ now. HearsAll g.L.Listener.hears c.lines.scene.listener (at_terminal c.args.shell.is_terminal prompt) now) (sym leaves.1) c.in_ok-prompt-2.ensures)
+
+pub returns-in-Ok-None-clause-heard : goal.returns-in-Ok-None-clause-heard
+returns-in-Ok-None-clause-heard g c =
+    on-ok c.prompt-in-Ok-None.result
+    (λ ended. typed-all g.B.Board.seat g.B.Board.view g.B.Board.stack g.D.ScriptDesk.again g.D.ScriptDesk.database_of g.D.ScriptDesk.entries c.args.shell.is_terminal g.L.Listener.hears (g.R.Read.remaining c.args.reader)
+    (record { sessions = c.args.scene.now.state.sessions; names = c.args.scene.now.state.names }) c.args.scene.now.listener
+    c.lines.lines.number c.lines.lines.source.left (record { sessions = c.lines.scene.state.sessions; names = c.lines.scene.state.names })
+    c.lines.scene.listener c.prompt-in-Ok-None.new.listener
+    (at_terminal c.args.shell.is_terminal prompt ++ at_terminal c.args.shell.is_terminal (codes "\n")) c.lines.invariant.so_far
+    (inr (known (g.R.Read.remaining c.args.reader) (rw c.in-Ok-None.field-0-is at c.in-Ok-None.ensures.reads), refl))
+    (hears-append g.L.Listener.hears c.lines.scene.listener c.prompt-in-lines.new.listener c.prompt-in-Ok-None.new.listener
+    (at_terminal c.args.shell.is_terminal prompt) (at_terminal c.args.shell.is_terminal (codes "\n")) c.in_ok-prompt-2.ensures ended))
+    c.prompt-in-Ok-None.ensures
+
+pub lines-preserved : goal.lines-preserved
+lines-preserved g c = elim c.match-next_line.branch [
+  | in-Ok-Some+in_ok-answer-in-Ok-Some+else-branch w ↦
+      (let answered = w.answer.ensures.answered (search rules) in
+      rw w.scene-is (record {
+        manager = w.answer.ensures.manager ∙ c.lines.invariant.manager;
+        so_far = typed-next g.B.Board.seat g.B.Board.view g.B.Board.stack g.D.ScriptDesk.again g.D.ScriptDesk.database_of g.D.ScriptDesk.entries c.args.shell.is_terminal g.L.Listener.hears (g.R.Read.remaining c.args.reader)
+            (record { sessions = c.args.scene.now.state.sessions; names = c.args.scene.now.state.names }) c.args.scene.now.listener
+            c.lines.lines.number c.next_line.new.self.number c.lines.lines.source.left c.next_line.new.self.source.left
+            (record { sessions = c.lines.scene.state.sessions; names = c.lines.scene.state.names })
+            (record { sessions = w.answer.new.scene.state.sessions; names = w.answer.new.scene.state.names })
+            c.lines.scene.listener c.prompt-in-lines.new.listener w.answer.new.scene.listener (Some w.in-Ok-Some.line) c.lines.invariant.so_far
+            (known (g.R.Read.remaining c.args.reader) (rw w.in-Ok-Some.field-0-is at w.in-Ok-Some.ensures.number))
+            (known (g.R.Read.remaining c.args.reader) (rw w.in-Ok-Some.field-0-is at w.in-Ok-Some.ensures.reads))
+            (known (g.R.Read.remaining c.args.reader) w.in-Ok-Some.ensures.rest) c.in_ok-prompt-2.ensures
+            (answered.1.0, (rw w.as_str.ensures at answered.0, rw w.as_str.ensures at answered.1.1), answered.1.2);
+      }))
+  | in-Err+in_ok-pass_over-in-Err w ↦
+      (let passed = w.in_ok-pass_over-in-Err.ensures.passed in
+      let told = w.in_ok-pass_over-in-Err.ensures.told in
+      let over = passed-over (g.R.Read.remaining c.args.reader) c.lines.lines.source.left c.next_line.new.self.source.left c.lines.invariant.so_far.lines
+      c.lines.lines.number c.next_line.new.self.number passed.0 c.next_line.result w.in-Err.fault c.lines.invariant.so_far.are w.in-Err.is passed.1
+      c.next_line.ensures.reads c.next_line.ensures.counted c.next_line.ensures.passed_over in
+      rw w.scene-is (record {
+        manager = c.lines.invariant.manager;
+        so_far = typed-next g.B.Board.seat g.B.Board.view g.B.Board.stack g.D.ScriptDesk.again g.D.ScriptDesk.database_of g.D.ScriptDesk.entries c.args.shell.is_terminal g.L.Listener.hears (g.R.Read.remaining c.args.reader)
+            (record { sessions = c.args.scene.now.state.sessions; names = c.args.scene.now.state.names }) c.args.scene.now.listener
+            c.lines.lines.number c.next_line.new.self.number c.lines.lines.source.left c.next_line.new.self.source.left
+            (record { sessions = c.lines.scene.state.sessions; names = c.lines.scene.state.names })
+            (record { sessions = c.lines.scene.state.sessions; names = c.lines.scene.state.names })
+            c.lines.scene.listener c.prompt-in-lines.new.listener w.pass_over.new.listener None c.lines.invariant.so_far over.next over.reads over.rest
+            c.in_ok-prompt-2.ensures
+            (Helped told.0 ∷ [], (told.0, refl, refl), hears-one g.L.Listener.hears c.prompt-in-lines.new.listener w.pass_over.new.listener (Helped told.0) told.1);
+      }))
+]
