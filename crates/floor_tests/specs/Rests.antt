@@ -3,7 +3,8 @@ use Rattle.lock_world.specs.Account.{Account}
 use Rattle.shared_rule.specs.Boards.{Seated, Stack, nothing_due}
 use Rattle.shared_rule.specs.Seats.{MayCloseBy}
 
--- What a test says of a board that it lends to a function, by the account, the stack and the seat that the board has.
+-- What a test says of a board that it lends to a function, by the account, the stack and the seat that the
+-- board has.
 
 module _ {B : Type 0} (view : B → Account) (stack : B → Stack) where
   -- The session of the board has nothing, and nothing to do yet.

@@ -1,4 +1,5 @@
-//! What tests share: objects and sessions, and of partitions a part to begin with, and what has to be so before a call.
+//! What tests share: objects and sessions, and of partitions a part to begin with, and what has to be so
+//! before a call.
 
 ghost use Rattle.std.specs.Prelude.{◌≡◌, true, false, None, IfOk};
 ghost use Rattle.modes_core.specs.declared.modes.Mode.{Mode};

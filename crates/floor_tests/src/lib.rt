@@ -1,5 +1,5 @@
-//! Tests of the crates up to the shared table and of the language of scripts, in a crate of their own: those crates
-//! have none, so that each is proved once. Apart from its tests there is nothing here.
+//! Tests of the crates up to the shared table and of the language of scripts, in a crate of their own: those
+//! crates have none, so that each is proved once. Apart from its tests there is nothing here.
 #![tactic(auto)]
 
 #[cfg(test)]

@@ -81,8 +81,8 @@ fn the_lowest_mode_in_both_sets_is_found(rt: HostRuntime) {
     );
 }
 
-/// Tags, their hashes, partitions and strong lock counters, and their texts. The hashes are worked examples of the
-/// rule, not this code's answers.
+/// Tags, their hashes, partitions and strong lock counters, and their texts. The hashes are worked examples
+/// of the rule, not this code's answers.
 const TAGS: [(Tag, u32, u8, u16, &str); 6] = [
     (OBJECT, 2389211932, 12, 796, "5/16384"),
     (
@@ -180,7 +180,8 @@ fn tags_are_ordered_by_their_numbers(rt: HostRuntime) {
     }
 }
 
-/// A session's database, an object and a mode, and whether a lock in the mode on the object may go by the fast path.
+/// A session's database, an object and a mode, and whether a lock in the mode on the object may go by the
+/// fast path.
 const ELIGIBLE: [(u32, Tag, Mode, bool); 6] = [
     (5, OBJECT, Mode::RowExclusive, true),
     (5, OBJECT, Mode::ShareUpdateExclusive, false),

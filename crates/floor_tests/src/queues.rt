@@ -18,11 +18,11 @@ use wait_queue::{Decision, Kind, awaited_in_conflict, decide, remove_waiter, tak
 enum Step {
     /// The session with this number asks for this mode, by a request of this kind, and gets this answer.
     Asks(u16, Mode, Kind, Told),
-    /// The session with this number releases its hold in this mode, which wakes these sessions with these modes, in
-    /// this order.
+    /// The session with this number releases its hold in this mode, which wakes these sessions with these
+    /// modes, in this order.
     Releases(u16, Mode, &'static [(u16, Mode)]),
-    /// The wait of the session with this number is taken out: whether it was granted before, and whom that wakes with
-    /// which modes, in this order.
+    /// The wait of the session with this number is taken out: whether it was granted before, and whom that
+    /// wakes with which modes, in this order.
     Leaves(u16, bool, &'static [(u16, Mode)]),
     /// Whether somebody waits for a mode in conflict with the given mode.
     Awaited(Mode, bool),
@@ -106,8 +106,8 @@ const A_WAITER_THAT_LEAVES_LETS_OTHERS_GO: [Step; 5] = [
     Step::Leaves(2, true, &[]),
 ];
 
-/// The answer to a request of `session` in `part` for `mode`, of kind `kind`. Where memory is refused, nothing
-/// changes and a second attempt is made. Where the request may not be made, the test ends by `rt`.
+/// The answer to a request of `session` in `part` for `mode`, of kind `kind`. Where memory is refused,
+/// nothing changes and a second attempt is made. Where the request may not be made, the test ends by `rt`.
 fn asked<P: PartTable>(
     rt: &impl Abort,
     part: &mut P,

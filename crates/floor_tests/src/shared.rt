@@ -20,8 +20,9 @@ mod boards;
 mod latecomers;
 mod slots;
 
-// The indexes in these tests are worked by hand: 16 times 16 words for partitions, 1,024 for counters, 16 unused,
-// and 37 for each session, and again for each group of slots after the first. Most are of a table for 64 sessions.
+// The indexes in these tests are worked by hand: 16 times 16 words for partitions, 1,024 for counters, 16
+// unused, and 37 for each session, and again for each group of slots after the first. Most are of a table for
+// 64 sessions.
 
 /// The number of words of a table for `sessions` sessions with `groups` groups of slots each.
 fn words_of(sessions: u16, groups: u8) -> usize {
@@ -128,8 +129,8 @@ const SIZES: TableSizes = TableSizes {
     groups: 1,
 };
 
-/// Sixteen empty partitions, which grow by `alloc`, each on its shelf of a table for two sessions, and the wait lists
-/// of the partitions' locks.
+/// Sixteen empty partitions, which grow by `alloc`, each on its shelf of a table for two sessions, and the
+/// wait lists of the partitions' locks.
 fn empty_shelves(alloc: Global) -> Result<Vec<Kept<PlainPart>>, Fail>
     ensures new { let T = ⟦<PlainPart as PartTable>⟧ in IfOk result (λ shelves. AreNew T.content T.begun 2 shelves.items) }
 {

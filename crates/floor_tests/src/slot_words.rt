@@ -1,4 +1,5 @@
-//! The words of fast-path slots. The numbers are worked by hand from the bits, and are not this code's answers.
+//! The words of fast-path slots. The numbers are worked by hand from the bits, and are not this code's
+//! answers.
 
 use lw_word::SlotWord;
 use modes_core::Mode;
@@ -27,8 +28,8 @@ const SHOWS: [(Mode, bool); 5] = [
     (Mode::AccessExclusive, false),
 ];
 
-/// The slot word `number`, of an empty slot or one of `relation`, with `mode` set, which is a mode that a slot may
-/// show.
+/// The slot word `number`, of an empty slot or one of `relation`, with `mode` set, which is a mode that a
+/// slot may show.
 fn with(rt: &impl Abort, number: u64, relation: u32, mode: Mode) -> u64 {
     let slot = SlotWord::from_number(number);
     assert!(rt; mode.number() <= 3);
@@ -48,8 +49,8 @@ fn used_by(number: u64) -> (bool, u32) {
     (slot.in_use(), slot.relation())
 }
 
-/// Whether the slot with the word `number` shows `mode`, whether it shows `mode` for relation 16384, and whether for
-/// relation 16385.
+/// Whether the slot with the word `number` shows `mode`, whether it shows `mode` for relation 16384, and
+/// whether for relation 16385.
 fn shows(number: u64, mode: Mode) -> [bool; 3] {
     let slot = SlotWord::from_number(number);
     [

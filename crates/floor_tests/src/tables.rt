@@ -1,5 +1,5 @@
-//! Lists of what is done to a plain part, each with what that leads to, worked by hand; and what a part lists, a
-//! copy of it, and the parts of a new table.
+//! Lists of what is done to a plain part, each with what that leads to, worked by hand; and what a part
+//! lists, a copy of it, and the parts of a new table.
 
 ghost use Rattle.std.specs.Prelude.{◌≡◌, None};
 
@@ -124,8 +124,8 @@ fn a_request_is_told_where_it_stands(rt: HostRuntime) -> Result<(), Fail> {
     Ok(())
 }
 
-/// Has `many` sessions wait in `part` for what nobody holds, each after those with lower numbers, and wakes the
-/// queue.
+/// Has `many` sessions wait in `part` for what nobody holds, each after those with lower numbers, and wakes
+/// the queue.
 fn wake_many<P: PartTable>(rt: &impl Abort, part: &mut P, many: u16) -> Result<(), NoMemory>
     requires none_begun { P.begun part.old ≡ None }
 {
@@ -178,8 +178,8 @@ fn rows_of<P: PartTable>(
     Ok(rows)
 }
 
-/// Whether `rows` are those of the `expected` sessions, in this order, on `OBJECT`, in these modes, granted (`true`)
-/// or awaited.
+/// Whether `rows` are those of the `expected` sessions, in this order, on `OBJECT`, in these modes, granted
+/// (`true`) or awaited.
 fn are_rows(rows: &[TableRow], expected: &[(u16, Mode, bool)]) -> bool {
     if rows.len() != expected.len() {
         return false;
@@ -228,8 +228,8 @@ fn are_alike(part: &PlainPart, other: &PlainPart) -> bool {
     part.holds() == other.holds() && part.waits() == other.waits()
 }
 
-/// A copy of `part`, once `steps` were played on the copy. The test ends by `rt` where the copy isn't like `part` at
-/// first.
+/// A copy of `part`, once `steps` were played on the copy. The test ends by `rt` where the copy isn't like
+/// `part` at first.
 fn copy_after(rt: &impl Abort, part: &PlainPart, steps: &[Step]) -> Result<PlainPart, Fail>
     requires { part.now.begun ≡ None }
 {

@@ -22,8 +22,8 @@ fn word(rt: &impl Abort, number: u64) -> LwWord
     LwWord::from_number(number).expect(rt, "a lightweight word")
 }
 
-/// The number of a lightweight lock's word, and what the word says: how many share the lock, whether it is held
-/// exclusively, and whether its wait list is locked, release-ok is set and has-waiters is set.
+/// The number of a lightweight lock's word, and what the word says: how many share the lock, whether it is
+/// held exclusively, and whether its wait list is locked, release-ok is set and has-waiters is set.
 type Bits = (u64, u64, bool, [bool; 3]);
 
 const BITS: [Bits; 14] = [
@@ -68,8 +68,8 @@ fn words_have_no_other_bits(rt: HostRuntime) {
     }
 }
 
-/// A word, the mode in which its lock is attempted, and the word that comes of the attempt, if the lock is free for
-/// it.
+/// A word, the mode in which its lock is attempted, and the word that comes of the attempt, if the lock is
+/// free for it.
 const ATTEMPTS: [(u64, LwMode, Option<u64>); 6] = [
     (0, Exclusive, Some(0x0100_0000)),
     (0x0100_0000, Exclusive, None),
@@ -86,8 +86,8 @@ const RELEASES: [(u64, LwMode, u64); 3] = [
     (0x4100_0000, Exclusive, 0x4000_0000),
 ];
 
-/// The number that comes of an attempt in `mode` at the word `number`, as `LwWord` says it and as it follows from the
-/// number alone.
+/// The number that comes of an attempt in `mode` at the word `number`, as `LwWord` says it and as it follows
+/// from the number alone.
 fn attempted(rt: &impl Abort, number: u64, mode: LwMode) -> (Option<u64>, Option<u64>) {
     let word = word(rt, number);
     assert!(rt; word.shared() < 0xFF_FFFF);
@@ -134,7 +134,8 @@ fn a_held_word_is_given_up(rt: HostRuntime) {
     }
 }
 
-/// The word that a release found, how the lock was held, and whether the session that releases must wake waiters.
+/// The word that a release found, how the lock was held, and whether the session that releases must wake
+/// waiters.
 const FOUND: [(u64, LwMode, bool); 10] = [
     (0x6100_0000, Exclusive, true),
     (0x7100_0000, Exclusive, true),
@@ -165,8 +166,8 @@ fn words_open_with_release_ok_and_count_by_mode(rt: HostRuntime) {
     assert!(rt; numbers == (0x2000_0000, 0x0100_0000, 1));
 }
 
-/// The flags has-waiters and release-ok that are to remain as a wait list is unlocked, the bits that are set for
-/// them, the bits that are kept, and the word that comes of unlocking 0x3100_0000.
+/// The flags has-waiters and release-ok that are to remain as a wait list is unlocked, the bits that are set
+/// for them, the bits that are kept, and the word that comes of unlocking 0x3100_0000.
 const UNLOCKS: [(bool, bool, u64, u64, u64); 4] = [
     (true, true, 0x6000_0000, 0xFFFF_FFFF_EFFF_FFFF, 0x6100_0000),
     (true, false, 0x4000_0000, 0xFFFF_FFFF_CFFF_FFFF, 0x4100_0000),
@@ -179,8 +180,8 @@ fn locked(rt: &impl Abort, number: u64) -> Option<u64> {
     Some(word(rt, number).lock_list()?.number())
 }
 
-/// The bits that are set and those that are kept for the flags `waiters` and `release_ok`, and the word that comes of
-/// unlocking the wait list of the word `number` with these flags.
+/// The bits that are set and those that are kept for the flags `waiters` and `release_ok`, and the word that
+/// comes of unlocking the wait list of the word `number` with these flags.
 fn unlocked(rt: &impl Abort, number: u64, waiters: bool, release_ok: bool) -> (u64, u64, u64) {
     (
         LwWord::flag_bits(waiters, release_ok),
@@ -198,7 +199,8 @@ fn flagged(rt: &impl Abort, number: u64) -> (u64, u64) {
     )
 }
 
-/// A word, the word that comes of setting has-waiters in it, and the word that comes of setting release-ok in it.
+/// A word, the word that comes of setting has-waiters in it, and the word that comes of setting release-ok in
+/// it.
 const FLAGS: [(u64, u64, u64); 4] = [
     (5, 0x4000_0005, 0x2000_0005),
     (0x1100_0000, 0x5100_0000, 0x3100_0000),
@@ -254,7 +256,8 @@ const WAKEUPS: [WaitsAndWakeup; 3] = [
     (&[], &[], &[], true),
 ];
 
-/// Has the session numbered `number`, for which there is room, join `list`, in which it isn't yet, for `mode`.
+/// Has the session numbered `number`, for which there is room, join `list`, in which it isn't yet, for
+/// `mode`.
 fn join(rt: &impl Abort, list: &mut WaitList, number: u16, mode: LwMode) {
     let session = session(rt, number);
     assert!(rt; session.number() < list.room());
@@ -277,8 +280,8 @@ fn are_waiting(waiters: &[LwWaiter], expected: &[(u16, LwMode)]) -> bool {
     true
 }
 
-/// Whether a wakeup of the list `waiters`, with room for four sessions, takes off `taken`, leaves `left`, and has
-/// release-ok set where `release_ok` says so. The list takes memory by `alloc`.
+/// Whether a wakeup of the list `waiters`, with room for four sessions, takes off `taken`, leaves `left`, and
+/// has release-ok set where `release_ok` says so. The list takes memory by `alloc`.
 fn wakes(
     rt: &impl Abort,
     alloc: Global,
@@ -310,8 +313,8 @@ fn a_wakeup_takes_sharers_off_together_and_an_exclusive_first_alone(
     Ok(())
 }
 
-/// A list with all sessions, each after those with lower numbers, which wait for `mode`. The list takes memory by
-/// `alloc`. Where a session can't join, the test ends by `rt`.
+/// A list with all sessions, each after those with lower numbers, which wait for `mode`. The list takes
+/// memory by `alloc`. Where a session can't join, the test ends by `rt`.
 fn all_sessions(rt: &impl Abort, alloc: Global, mode: LwMode) -> Result<WaitList, AllocError> {
     let mut list = WaitList::new(alloc, 64)?;
     for number in 0..64 {
@@ -320,8 +323,8 @@ fn all_sessions(rt: &impl Abort, alloc: Global, mode: LwMode) -> Result<WaitList
     Ok(list)
 }
 
-/// A wakeup takes off at most 64 sharers at a time, as many as there can be sessions, and so nobody is left. A test
-/// in which sharers are left for the next wakeup needs more sessions than there can be.
+/// A wakeup takes off at most 64 sharers at a time, as many as there can be sessions, and so nobody is left.
+/// A test in which sharers are left for the next wakeup needs more sessions than there can be.
 #[test]
 fn sixty_four_sharers_go_together(rt: HostRuntime) -> Result<(), Fail> {
     let mut list = all_sessions(&rt, rt.alloc(), Shared)?;

@@ -19,6 +19,7 @@ abbrev pub IsDescendingFrom : ℕ → List ℕ → Type 0
 IsDescendingFrom from merge = (k : ℕ) → from ≤ k → k + 1 < length merge →
     slice_index merge (k + 1) ≤ slice_index merge k
 
--- No session comes before a later one. So of all merges of these sessions this one is the last: none comes later.
+-- No session comes before a later one. So of all merges of these sessions this one is the last: none comes
+-- later.
 abbrev pub IsInDescendingOrder : List ℕ → Type 0
 IsInDescendingOrder merge = (k : ℕ) → k + 1 < length merge → slice_index merge (k + 1) ≤ slice_index merge k

@@ -31,7 +31,8 @@ GivesStep old new text =
     (step : Step) × (line : ScriptLine) × IsLineAt old.script_lines.now step line
     × (text ≡ string_bytes line.text) × (steps_of new ≡ steps_of old ++ step ∷ [])
 
--- What a turn does to the order that is played: it has one line more, or is as it was, or a new one begins with no line.
+-- What a turn does to the order that is played: it has one line more, or is as it was, or a new one begins
+-- with no line.
 abbrev pub Goes : Orders → Orders → Instruction → Type 0
 Goes old new (Line text) = GivesOpening old new text.now ⊎ GivesStep old new text.now
 Goes old new Anew = steps_of new ≡ []

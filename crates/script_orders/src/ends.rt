@@ -35,7 +35,8 @@ impl fmt::Display for Orders {
     }
 }
 
-/// Ways in which orders end, the one that came first at the front. Each order that is counted ends in one of these ways.
+/// Ways in which orders end, the one that came first at the front. Each order that is counted ends in one of
+/// these ways.
 #[derive(Drop)]
 pub struct Ways {
     /// For each way, the text that says how its orders end.
@@ -59,8 +60,8 @@ impl Ways {
         }
     }
 
-    /// Counts an order whose end is described by `told`, and of which `script` is the script. Where there is no
-    /// memory nothing is counted.
+    /// Counts an order whose end is described by `told`, and of which `script` is the script. Where there is
+    /// no memory nothing is counted.
     pub fn count(&mut self, told: String, script: String) -> Result<(), AllocError>
         requires { self.old.orders < 2 ^ 32 - 1 }
         ensures counted { OnOk result (self.new.orders ≡ self.old.orders + 1) }
@@ -84,7 +85,8 @@ impl Ways {
 }
 
 impl Ways {
-    /// Writes the ways to `output`, numbered from `before` plus one on, and with `words` after the head of each way.
+    /// Writes the ways to `output`, numbered from `before` plus one on, and with `words` after the head of
+    /// each way.
     fn write<W: Write>(&self, output: &mut W, before: usize, words: &str) -> io::Result<()> {
         for (place, (told, way)) in self.tellings.iter().zip(&self.ways).enumerate() {
             let number = before.saturating_add(place).saturating_add(1);
@@ -113,7 +115,8 @@ pub struct Endings {
 /// Which orders of a script were run.
 #[derive(Clone, Copy)]
 pub enum Extent {
-    /// All orders, but for those that differ only in neighbouring lines that have nothing to do with one another.
+    /// All orders, but for those that differ only in neighbouring lines that have nothing to do with one
+    /// another.
     All,
     /// The first `first` orders, and others that were drawn by `seed`.
     Drawn { first: u64, seed: u32 },
@@ -148,8 +151,8 @@ impl Endings {
         self.run() + u64::from(self.given_up)
     }
 
-    /// Counts an order that was run, whose end is described by `told`, and of which `script` is the script. `is_stuck`
-    /// says whether lines are left. Where there is no memory nothing is counted.
+    /// Counts an order that was run, whose end is described by `told`, and of which `script` is the script.
+    /// `is_stuck` says whether lines are left. Where there is no memory nothing is counted.
     pub fn count(&mut self, told: String, script: String, is_stuck: bool) -> Result<(), AllocError>
         requires { run_of self.old < 2 ^ 32 - 1 }
         ensures counted { OnOk result (run_of self.new ≡ run_of self.old + 1) }
@@ -172,8 +175,8 @@ impl Endings {
         self.given_up += 1;
     }
 
-    /// Writes to `output` how all orders ended that were run, as a script with comments, and by `extent` which orders were run. `total` is in how many ways
-    /// the sessions' lines can be merged.
+    /// Writes to `output` how all orders ended that were run, as a script with comments, and by `extent`
+    /// which orders were run. `total` is in how many ways the sessions' lines can be merged.
     pub fn write<W: Write>(&self, output: &mut W, total: Total, extent: Extent) -> io::Result<()> {
         let run = self.run();
         let (ended, stuck) = (self.ended.orders, self.stuck.orders);

@@ -1,6 +1,6 @@
-//! The orders of a small script: the lines of its sessions merged in each way that keeps every session's own order, and
-//! how often each way to end comes. Of orders that differ only in neighbouring lines that have nothing to do with one
-//! another one is run.
+//! The orders of a small script: the lines of its sessions merged in each way that keeps every session's own
+//! order, and how often each way to end comes. Of orders that differ only in neighbouring lines that have
+//! nothing to do with one another one is run.
 #![tactic(auto)]
 
 mod ends;

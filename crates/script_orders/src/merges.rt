@@ -1,12 +1,12 @@
-//! The merges of several sessions' lines. A merge is a list of sessions, each as often as it has lines: whose line
-//! comes when. So each session's lines keep their order in every merge.
+//! The merges of several sessions' lines. A merge is a list of sessions, each as often as it has lines: whose
+//! line comes when. So each session's lines keep their order in every merge.
 
 ghost use Rattle.std.specs.Prelude.{◌≡◌, ℕ, ◌<◌, ◌≤◌, ◌+◌, List, true, false, length, take, drop, reverse, slice_index, IfSome, IfNone};
 ghost use Rattle.std.specs.List.Sorted.{IsPermutation};
 ghost use Rattle.script_orders.specs.Merges.{ComesLater, LiesBetween, IsDescendingFrom, IsInDescendingOrder};
 
-/// Makes `merge` the next merge of its sessions' lines, or answers that there is none. The first merge of all has the sessions in ascending order. Each next
-/// merge comes later, so none comes twice.
+/// Makes `merge` the next merge of its sessions' lines, or answers that there is none. The first merge of all
+/// has the sessions in ascending order. Each next merge comes later, so none comes twice.
 pub fn next_merge(merge: &mut [usize]) -> bool
     ensures same { IsPermutation merge.old merge.new }
     ensures later { result ≡ true → ComesLater merge.old merge.new }

@@ -7,7 +7,7 @@ pub struct OrdersOptions {
     pub limit: u32,
     /// The seed by which orders are drawn where not all are run: one seed draws the same orders each time.
     pub seed: u32,
-    /// Whether what a session sees is left out: the answers to `list`, `count`, `queue`, `owned`, `blockers` and
-    /// `waiters`. Then orders end alike where the same sessions were refused and waited.
+    /// Whether what a session sees is left out: the answers to `list`, `count`, `queue`, `owned`, `blockers`
+    /// and `waiters`. Then orders end alike where the same sessions were refused and waited.
     pub ends: bool,
 }

@@ -29,7 +29,8 @@ const ORDERS_A_MANAGER: u32 = 128;
 pub enum Instruction<'a> {
     /// The player is to play this line.
     Line(&'a str),
-    /// The player is to let all go that the sessions hold and await. Another order begins with the same sessions.
+    /// The player is to let all go that the sessions hold and await. Another order begins with the same
+    /// sessions.
     Anew,
     /// The player is to end: no further order is played.
     End,
@@ -89,8 +90,8 @@ impl<'a> Orders<'a> {
     ghost use Rattle.script_orders.specs.Ends.{begun_of, run_of};
     ghost use Rattle.script_orders.specs.Turns.{Begins, Goes, IsLineAt, KeepsOrder, steps_of};
 
-    /// The orders of `script_lines` within `options`, none of which was run yet. `ties` says which lines of `script_lines` have to do with one another. Refused only where
-    /// memory ran out.
+    /// The orders of `script_lines` within `options`, none of which was run yet. `ties` says which lines of
+    /// `script_lines` have to do with one another. Refused only where memory ran out.
     pub fn new(
         alloc: Global,
         script_lines: &'a ScriptLines,
@@ -194,7 +195,8 @@ impl<'a> Orders<'a> {
         self.script_lines.line(Step { session, line })
     }
 
-    /// Ends the order that is played, which came to its end if `has_ended`, and else was given up. Begins the next order.
+    /// Ends the order that is played, which came to its end if `has_ended`, and else was given up. Begins the
+    /// next order.
     fn end_order(&mut self, has_ended: bool) -> Result<Instruction<'a>, AllocError>
         ensures begins { IfOk result (Begins self.new) }
         ensures same_script_lines { self.new.script_lines.now ≡ self.old.script_lines.now }
@@ -223,7 +225,8 @@ impl<'a> Orders<'a> {
         self.begin_order()
     }
 
-    /// Counts the order that is played: as run to its end if `has_ended`, and else as given up. No more orders are counted than are to be begun.
+    /// Counts the order that is played: as run to its end if `has_ended`, and else as given up. No more
+    /// orders are counted than are to be begun.
     fn close_order(&mut self, has_ended: bool) -> Result<(), AllocError>
         ensures kept { KeepsOrder self.old self.new }
         ensures counted { OnOk result (run_of self.new.endings ≡ run_of self.old.endings
@@ -240,7 +243,8 @@ impl<'a> Orders<'a> {
         }
     }
 
-    /// How many orders are begun at most before others are drawn: as many as the limit allows, or half as many where there may be more orders than that.
+    /// How many orders are begun at most before others are drawn: as many as the limit allows, or half as
+    /// many where there may be more orders than that.
     fn most_first(&self) -> u64 {
         let limit = u64::from(self.options.limit);
         if self.total.is_at_most(limit) {
@@ -287,8 +291,9 @@ impl<'a> Orders<'a> {
         self.endings.count(told, script, is_stuck)
     }
 
-    /// Notes the answer `text` to the line that was given last, or that a session goes on after that line. `session` is the session that is answered, whose
-    /// name `text` leaves out, with what the answer says of that session. A row of a list has no `session`: it is for the session whose line was given.
+    /// Notes the answer `text` to the line that was given last, or that a session goes on after that line.
+    /// `session` is the session that is answered, whose name `text` leaves out, with what the answer says of
+    /// that session. A row of a list has no `session`: it is for the session whose line was given.
     pub fn tell<D: Display + Drop>(
         &mut self,
         session: Option<(Name, News)>,
@@ -312,7 +317,8 @@ impl<'a> Orders<'a> {
         }
     }
 
-    /// Whether the answers to the line of `step` are left out: the line only looks at locks, and only ends are described.
+    /// Whether the answers to the line of `step` are left out: the line only looks at locks, and only ends
+    /// are described.
     fn is_left_out(&self, step: Step) -> bool {
         self.options.ends
             && self

@@ -29,7 +29,8 @@ struct Standing {
     waits: bool,
     /// What the session was answered, one answer after the other.
     answers: String,
-    /// How many lines of the order were run when the session was answered something last, with the line that was answered.
+    /// How many lines of the order were run when the session was answered something last, with the line that
+    /// was answered.
     told_at: usize,
 }
 
@@ -83,15 +84,16 @@ impl Played {
             .is_some_and(|standing| standing.is_open)
     }
 
-    /// How many lines of the order were run when the session at the place `session` was answered something last, with the line that was answered.
+    /// How many lines of the order were run when the session at the place `session` was answered something
+    /// last, with the line that was answered.
     pub fn told_at(&self, session: usize) -> usize {
         self.standings
             .get(session)
             .map_or(0, |standing| standing.told_at)
     }
 
-    /// Notes what the session at the place `session`, called `name`, was answered: `news` says what has become of it,
-    /// and `lines` how many lines were run by then.
+    /// Notes what the session at the place `session`, called `name`, was answered: `news` says what has
+    /// become of it, and `lines` how many lines were run by then.
     pub fn hear(&mut self, session: usize, name: Name, news: News, lines: usize) {
         if news == News::NotOpened {
             self.was_refused = true;
@@ -136,8 +138,8 @@ impl Played {
         Ok(names)
     }
 
-    /// Describes an order in which the first lines of each session of `script_lines` were run, as many as `taken` says: the
-    /// answers of each session, who waits, and the lines that were not reached.
+    /// Describes an order in which the first lines of each session of `script_lines` were run, as many as
+    /// `taken` says: the answers of each session, who waits, and the lines that were not reached.
     pub fn tell(
         &self,
         alloc: Global,
@@ -175,8 +177,8 @@ impl Played {
     }
 }
 
-/// Adds to `told` the lines of `script_lines` that were not reached, session by session, if there are any. Of each session the
-/// first lines were run, as many as `taken` says.
+/// Adds to `told` the lines of `script_lines` that were not reached, session by session, if there are any. Of
+/// each session the first lines were run, as many as `taken` says.
 fn tell_what_is_left(
     told: &mut String,
     script_lines: &ScriptLines,

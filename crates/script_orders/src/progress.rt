@@ -2,7 +2,8 @@
 
 use std::io::Write;
 
-/// The line of a terminal that shows how many orders were run. Nothing is shown where the output is no terminal.
+/// The line of a terminal that shows how many orders were run. Nothing is shown where the output is no
+/// terminal.
 #[derive(Drop)]
 pub struct OrdersLine<'a, E> {
     pub writer: &'a mut E,

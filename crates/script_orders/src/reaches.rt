@@ -1,17 +1,19 @@
 //! Which lines of different sessions have to do with one another.
 //!
-//! Two that have not can change places where they are side by side: each session is answered alike, and all is as
-//! it was. A line has to do with the objects that it names, and where it ends a transaction or closes its session with
-//! all that the session asked for before. Objects of one strong lock counter count as one. A strong lock moves other
-//! sessions' fast-path slots, so it has to do with each line that asks for a lock, of a session that asked for a lock
-//! on its object before. A line that lists all locks or names another session has to do with every line.
+//! Two that have not can change places where they are side by side: each session is answered alike, and all
+//! is as it was. A line has to do with the objects that it names, and where it ends a transaction or closes
+//! its session with all that the session asked for before. Objects of one strong lock counter count as one. A
+//! strong lock moves other sessions' fast-path slots, so it has to do with each line that asks for a lock, of
+//! a session that asked for a lock on its object before. A line that lists all locks or names another session
+//! has to do with every line.
 
 use crate::script_lines::{Actor, ScriptLines};
 use lock_script::{parse_strong_index, parse_tag, split_words};
 use modes_core::{Mode, Tag, is_strong};
 use std::alloc::{AllocError, Global};
 
-/// How many lines a script has at most if `Ties` notes, for each line, how far the lines go that have to do with that line.
+/// How many lines a script has at most if `Ties` notes, for each line, how far the lines go that have to do
+/// with that line.
 const MOST_LINES: usize = 1000;
 
 /// Objects, by their strong lock counters: bit `i % 64` of word `i / 64` is counter `i`.
@@ -61,7 +63,8 @@ struct Reach {
     objects: Objects,
     /// The objects that the line asks for in a strong mode.
     strong: Objects,
-    /// The objects that the line's session asked for before, where the line asks for a lock: fast-path slots of these objects may have been moved.
+    /// The objects that the line's session asked for before, where the line asks for a lock: fast-path slots
+    /// of these objects may have been moved.
     in_slots: Objects,
 }
 
@@ -100,8 +103,8 @@ impl Reach {
     }
 }
 
-/// What `line` of `script_lines` has to do with, where its session asked for the objects `asked` before. With `ends` the answers to looks at locks are left out, so
-/// that most looks have to do with no line.
+/// What `line` of `script_lines` has to do with, where its session asked for the objects `asked` before. With
+/// `ends` the answers to looks at locks are left out, so that most looks have to do with no line.
 fn reach_of(script_lines: &ScriptLines, line: &str, asked: Objects, ends: bool) -> Reach {
     let words = split_words(line);
     let Some((verb, words)) = words.as_slice().split_first() else {
@@ -142,8 +145,8 @@ fn counter_of(words: &[&str]) -> Option<u16> {
     parse_strong_index(*words.get(1)?)
 }
 
-/// What a request for a lock has to do with, whose line in `script_lines` has `words`, where its session asked for the
-/// objects `asked` before.
+/// What a request for a lock has to do with, whose line in `script_lines` has `words`, where its session
+/// asked for the objects `asked` before.
 fn reach_of_request(script_lines: &ScriptLines, words: &[&str], asked: Objects) -> Reach {
     let Some(tag) = object_of(script_lines, words) else {
         return Reach::ALL;
@@ -165,7 +168,8 @@ fn reach_of_request(script_lines: &ScriptLines, words: &[&str], asked: Objects) 
     }
 }
 
-/// What each line of `actor` in `script_lines` has to do with. With `ends` the answers to looks at locks are left out.
+/// What each line of `actor` in `script_lines` has to do with. With `ends` the answers to looks at locks are
+/// left out.
 fn reaches_of(
     alloc: Global,
     script_lines: &ScriptLines,
@@ -187,13 +191,14 @@ fn reaches_of(
 pub struct Ties {
     /// What each line of each session has to do with.
     reaches: Vec<Vec<Reach>>,
-    /// For each line of each session: how many lines each session has up to the last one that has to do with that line. Empty where the script is large.
+    /// For each line of each session: how many lines each session has up to the last one that has to do with
+    /// that line. Empty where the script is large.
     last: Vec<Vec<Vec<usize>>>,
 }
 
 impl Ties {
-    /// Which lines of `script_lines` have to do with one another. With `ends` the answers to looks at locks are left out. Refused only where memory, by `alloc`, ran
-    /// out.
+    /// Which lines of `script_lines` have to do with one another. With `ends` the answers to looks at locks
+    /// are left out. Refused only where memory, by `alloc`, ran out.
     pub fn new(alloc: Global, script_lines: &ScriptLines, ends: bool) -> Result<Self, AllocError> {
         let mut reaches = Vec::new(alloc);
         for actor in &script_lines.actors {
@@ -212,7 +217,8 @@ impl Ties {
         Ok(ties)
     }
 
-    /// For each line of `session`: how many lines each other session has up to the last one that has to do with that line.
+    /// For each line of `session`: how many lines each other session has up to the last one that has to do
+    /// with that line.
     fn last_of_session(
         &self,
         alloc: Global,
@@ -249,7 +255,8 @@ impl Ties {
         Ok(last)
     }
 
-    /// Whether the line numbered `line` of `session` has to do with the line numbered `other_line` of the session `other`.
+    /// Whether the line numbered `line` of `session` has to do with the line numbered `other_line` of the
+    /// session `other`.
     pub fn meet(&self, session: usize, line: usize, other: usize, other_line: usize) -> bool {
         let reach = self.reaches.get(session).and_then(|lines| lines.get(line));
         let its = self
@@ -262,9 +269,9 @@ impl Ties {
         }
     }
 
-    /// Whether a line is left, of another session than `session`, that has to do with the line numbered `line` of
-    /// `session`, where of each session the first lines were run, as many as `taken` says. Answers yes where the script
-    /// is large.
+    /// Whether a line is left, of another session than `session`, that has to do with the line numbered
+    /// `line` of `session`, where of each session the first lines were run, as many as `taken` says. Answers
+    /// yes where the script is large.
     pub fn meets_one_left(&self, session: usize, line: usize, taken: &[usize]) -> bool {
         let last = self.last.get(session).and_then(|lines| lines.get(line));
         let Some(last) = last else {

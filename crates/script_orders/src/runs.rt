@@ -12,15 +12,16 @@ use std::sync::Wait;
 
 /// Plays the lines of orders against a lock manager.
 pub trait Player {
-    /// Plays the lines that `orders` gives turn by turn, against one lock manager that is made first, until `orders` says that this is the end. Each answer
-    /// goes to `orders`. A bad line ends the play.
+    /// Plays the lines that `orders` gives turn by turn, against one lock manager that is made first, until
+    /// `orders` says that this is the end. Each answer goes to `orders`. A bad line ends the play.
     fn play<H: AllocGlobal + Wait>(&self, rt: &H, orders: &mut Orders<'_>) -> Result<(), Fault>;
 }
 
-/// Has `player` play the orders of the script that `reader` has, and writes to `output` how often each way to end came. The script is played in its own order
-/// first. No more orders are begun than `options` allow; where these are not all, half of them are the first ones, and half are drawn. A bad line, or a
-/// session that is refused since all that may be opened were, ends the run, and its number in the script is in the error. Meanwhile `line` shows how many
-/// orders were run.
+/// Has `player` play the orders of the script that `reader` has, and writes to `output` how often each way to
+/// end came. The script is played in its own order first. No more orders are begun than `options` allow;
+/// where these are not all, half of them are the first ones, and half are drawn. A bad line, or a session
+/// that is refused since all that may be opened were, ends the run, and its number in the script is in the
+/// error. Meanwhile `line` shows how many orders were run.
 pub fn run_orders<P: Player, H: AllocGlobal + Wait, R: Read + Drop, W: Write + Drop, E: Write>(
     rt: &H,
     player: &P,

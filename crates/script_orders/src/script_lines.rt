@@ -69,7 +69,8 @@ fn kind_of(line: &str) -> LineKind<'_> {
     }
 }
 
-/// The word among the `words` of a line that names another session than the one that acts, if the line's command has such a word.
+/// The word among the `words` of a line that names another session than the one that acts, if the line's
+/// command has such a word.
 fn named_word<'a>(words: &[&'a str]) -> Option<&'a str> {
     let verb = words.first()?;
     let place = command_row(*verb)?.place_of(WordKind::OpenName)?;
@@ -102,7 +103,8 @@ impl ScriptLine {
 }
 
 impl ScriptLines {
-    /// Reads the script of `reader`, and takes it apart. Refused where it can't be read, and where memory ran out.
+    /// Reads the script of `reader`, and takes it apart. Refused where it can't be read, and where memory ran
+    /// out.
     pub fn read<R: Read + Drop>(alloc: Global, reader: R) -> Result<ScriptLines, Fault> {
         let mut script_lines = ScriptLines {
             opening: Vec::new(alloc),
@@ -121,8 +123,9 @@ impl ScriptLines {
         Ok(script_lines)
     }
 
-    /// Adds `line`, numbered `number` in the script. A line that opens a session of a new name comes before all orders. Where the name is that of a session
-    /// that was closed before, the line is one of that session.
+    /// Adds `line`, numbered `number` in the script. A line that opens a session of a new name comes before
+    /// all orders. Where the name is that of a session that was closed before, the line is one of that
+    /// session.
     fn add(&mut self, alloc: Global, number: u32, line: &str) -> Result<(), AllocError> {
         let text = String::from_str(alloc, line)?;
         let added = ScriptLine { number, text };
@@ -216,8 +219,8 @@ impl ScriptLines {
         wanted
     }
 
-    /// Whether an order leaves nothing once each of its sessions has aborted: no session opens or closes within the orders, and none has a lock of its own
-    /// that an abort leaves it.
+    /// Whether an order leaves nothing once each of its sessions has aborted: no session opens or closes
+    /// within the orders, and none has a lock of its own that an abort leaves it.
     pub fn is_undone_by_aborts(&self) -> bool {
         for actor in &self.actors {
             for line in &actor.lines {

@@ -1,9 +1,10 @@
-//! The way through all orders: at each place of an order the sessions whose line may come there are tried one after the
-//! other.
+//! The way through all orders: at each place of an order the sessions whose line may come there are tried one
+//! after the other.
 
 use std::alloc::{AllocError, Global};
 
-/// A place of an order: the session whose line comes at this place now, and the sessions whose lines are still to be tried at it, the next one last.
+/// A place of an order: the session whose line comes at this place now, and the sessions whose lines are
+/// still to be tried at it, the next one last.
 #[derive(Drop)]
 struct Fork {
     session: usize,
@@ -29,8 +30,8 @@ impl Search {
         Some(self.forks.get(place)?.session)
     }
 
-    /// Looks at the next place of the order, where a line of any of `sessions` may come, and answers which session's comes first: the last one's. None where
-    /// `sessions` is empty.
+    /// Looks at the next place of the order, where a line of any of `sessions` may come, and answers which
+    /// session's comes first: the last one's. None where `sessions` is empty.
     pub fn add(&mut self, sessions: Vec<usize>) -> Result<Option<usize>, AllocError> {
         let mut to_try = sessions;
         let Some(session) = to_try.pop() else {
@@ -40,8 +41,8 @@ impl Search {
         Ok(Some(session))
     }
 
-    /// Goes to the next order: at the last place at which sessions are still to be tried, a line of the next of these comes. Answers whether there is a next
-    /// order.
+    /// Goes to the next order: at the last place at which sessions are still to be tried, a line of the next
+    /// of these comes. Answers whether there is a next order.
     pub fn next_order(&mut self) -> bool {
         for _ in 0..self.forks.len() {
             if let Some(fork) = self.forks.last_mut() {

@@ -4,15 +4,16 @@ ghost use Rattle.script_orders.specs.Steps.{KeepsOwnOrder};
 
 use std::alloc::{AllocError, Global};
 
-/// A line of a session: the session's place among those of a script, and the line's place among the session's own.
+/// A line of a session: the session's place among those of a script, and the line's place among the session's
+/// own.
 #[derive(Clone, Copy)]
 pub struct Step {
     pub session: usize,
     pub line: usize,
 }
 
-/// An order of the sessions' lines, as far as it is run. Of each session its first lines were run, each once and in
-/// its own order.
+/// An order of the sessions' lines, as far as it is run. Of each session its first lines were run, each once
+/// and in its own order.
 #[derive(Drop)]
 pub struct Order {
     /// The lines of the order that were run, one after the other.
@@ -35,7 +36,8 @@ impl Order {
         })
     }
 
-    /// Notes that the next line of `session` is run, and answers which line this is. Where there is no memory nothing changes.
+    /// Notes that the next line of `session` is run, and answers which line this is. Where there is no memory
+    /// nothing changes.
     pub fn take(&mut self, session: usize) -> Result<Step, AllocError>
         requires there { session < length self.old.taken.items }
         requires fits { slice_index self.old.taken.items session < 2 ^ 64 - 1 }

@@ -14,7 +14,8 @@ pub struct Total {
 }
 
 impl Total {
-    /// In how many ways the lines of the sessions of `script_lines` can be merged. A session that waits leaves some of these ways out.
+    /// In how many ways the lines of the sessions of `script_lines` can be merged. A session that waits
+    /// leaves some of these ways out.
     pub fn of_merges(script_lines: &ScriptLines) -> Self {
         let mut total = Total {
             leading: 1,

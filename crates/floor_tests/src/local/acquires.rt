@@ -29,8 +29,8 @@ fn acquire_once(
     Ok(table.add(tag, mode, owner))
 }
 
-/// Acquires `tag` in `mode` for `owner` in `table`, by `reserve` and `add`. Where memory is refused, no count changes
-/// and a second attempt is made.
+/// Acquires `tag` in `mode` for `owner` in `table`, by `reserve` and `add`. Where memory is refused, no count
+/// changes and a second attempt is made.
 pub fn acquire(
     rt: &impl Abort,
     table: &mut LocalTable,
@@ -64,8 +64,9 @@ fn acquire_once_in_one_look(
     Ok(Acquired::Granted)
 }
 
-/// Acquires `tag` in `mode` for `owner` in `table` with one look, by `add_held` or, where `table` has no entry of
-/// `tag` in `mode`, by `reserve_new` and `add_new`. Where memory is refused, a second attempt is made.
+/// Acquires `tag` in `mode` for `owner` in `table` with one look, by `add_held` or, where `table` has no
+/// entry of `tag` in `mode`, by `reserve_new` and `add_new`. Where memory is refused, a second attempt is
+/// made.
 pub fn acquire_in_one_look(
     table: &mut LocalTable,
     tag: Tag,

@@ -16,8 +16,8 @@ fn relation(round: u32) -> Tag {
     Tag::relation(5, round)
 }
 
-/// Acquires in `table` the relation of `round`, and releases that of the round before: the slot of the released one,
-/// which isn't the last slot, is empty from then on.
+/// Acquires in `table` the relation of `round`, and releases that of the round before: the slot of the
+/// released one, which isn't the last slot, is empty from then on.
 fn go_on(rt: &impl Abort, table: &mut LocalTable, round: u32) {
     let taken = acquire(rt, table, relation(round), AccessShare, Owner::Transaction);
     assert!(rt; taken.is_ok(), "{round}");
@@ -26,8 +26,8 @@ fn go_on(rt: &impl Abort, table: &mut LocalTable, round: u32) {
     assert!(rt; given_back == Ok(Unlocked::Released), "{round}");
 }
 
-/// Ends the test where `table` has room for one more entry in more than `FEW` rounds in a row. A full table uses its
-/// empty slots again, and so is soon full again.
+/// Ends the test where `table` has room for one more entry in more than `FEW` rounds in a row. A full table
+/// uses its empty slots again, and so is soon full again.
 fn expect_few_slots(rt: &impl Abort, table: &mut LocalTable) {
     let mut with_room = 0u32;
     for round in 2..ROUNDS {

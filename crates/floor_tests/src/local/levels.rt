@@ -139,8 +139,8 @@ fn left_of(rt: &impl Abort, held: Held, depth: usize, end: End) -> Held {
     left
 }
 
-/// Ends `table` and `plain` by `end`, and answers whether `table` gives the entries that `plain` loses, in the order
-/// of `plain`.
+/// Ends `table` and `plain` by `end`, and answers whether `table` gives the entries that `plain` loses, in
+/// the order of `plain`.
 fn end_both(
     rt: &impl Abort,
     alloc: Global,

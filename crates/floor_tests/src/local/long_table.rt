@@ -8,8 +8,8 @@ use std::process::Abort;
 
 const MANY: u32 = 10_000;
 
-/// Whether `owner` is to have `relation`: each relation has an owner, and some have both the transaction and the
-/// session.
+/// Whether `owner` is to have `relation`: each relation has an owner, and some have both the transaction and
+/// the session.
 fn owns(owner: Owner, relation: u32) -> bool {
     match owner {
         Owner::Transaction => relation % 5 != 0 || relation % 7 == 0,
@@ -32,7 +32,8 @@ fn is_left(relation: u32) -> bool {
     true
 }
 
-/// Acquires `relation` in `table` for `owner`, if that owner is to have it, and answers whether nothing was refused.
+/// Acquires `relation` in `table` for `owner`, if that owner is to have it, and answers whether nothing was
+/// refused.
 fn acquire_for(rt: &impl Abort, table: &mut LocalTable, owner: Owner, relation: u32) -> bool {
     let tag = Tag::relation(5, relation);
     !owns(owner, relation) || acquire(rt, table, tag, AccessShare, owner).is_ok()
@@ -52,7 +53,8 @@ fn acquire_all(rt: &impl Abort, table: &mut LocalTable) {
     }
 }
 
-/// Whether the release of `relation` in `table` for `owner`, if that owner is to have it, is answered `answer`.
+/// Whether the release of `relation` in `table` for `owner`, if that owner is to have it, is answered
+/// `answer`.
 fn release_for(table: &mut LocalTable, owner: Owner, relation: u32, answer: Unlocked) -> bool {
     let tag = Tag::relation(5, relation);
     !owns(owner, relation) || table.drop_one(tag, AccessShare, owner) == Ok(answer)
@@ -84,8 +86,8 @@ fn ends_next(table: &mut LocalTable, relation: u32) -> bool {
     table.end_next(End::Commit) == Some((Tag::relation(5, relation), AccessShare))
 }
 
-/// Commits in `table`, and ends the test unless that ends just the entries that are left and not the session's, in
-/// the order of making.
+/// Commits in `table`, and ends the test unless that ends just the entries that are left and not the
+/// session's, in the order of making.
 fn commit(rt: &impl Abort, table: &mut LocalTable) {
     for relation in 0..MANY {
         if !owns(Owner::Session, relation) && is_left(relation) {

@@ -19,7 +19,8 @@ fn is_noted(index: &PlaceIndex, hash: u32, place: u16) -> bool {
         .is_some()
 }
 
-/// Notes `place`, which is not noted yet, under `hash` in `index`. Where memory is refused, a second attempt is made.
+/// Notes `place`, which is not noted yet, under `hash` in `index`. Where memory is refused, a second attempt
+/// is made.
 fn note(rt: &impl Abort, index: &mut PlaceIndex, hash: u32, place: u16) {
     let place = u32::from(place);
     if index.reserve(place).is_err() {
@@ -98,7 +99,8 @@ const NOTED_UNTIL_FORGOTTEN_OR_CLEARED: [Step; 25] = [
     Step::First(5, None),
 ];
 
-/// Does with `index` what `step` says, or looks at `index`, and answers whether that comes out as `step` says.
+/// Does with `index` what `step` says, or looks at `index`, and answers whether that comes out as `step`
+/// says.
 fn make(rt: &impl Abort, index: &mut PlaceIndex, step: Step) -> bool {
     match step {
         Step::Note(hash, place) => {
@@ -145,8 +147,8 @@ fn note_many(rt: &impl Abort, index: &mut PlaceIndex, hashes: u32) {
     }
 }
 
-/// Forgets each second place of `index`, noted under `hashes` hashes: the even ones where `odd` is 0, the odd ones
-/// where it is 1.
+/// Forgets each second place of `index`, noted under `hashes` hashes: the even ones where `odd` is 0, the odd
+/// ones where it is 1.
 fn forget_half(rt: &impl Abort, index: &mut PlaceIndex, hashes: u32, odd: u16) {
     for place in 0..MANY {
         if place % 2 == odd {
@@ -156,8 +158,8 @@ fn forget_half(rt: &impl Abort, index: &mut PlaceIndex, hashes: u32, odd: u16) {
     }
 }
 
-/// Looks in `index` for all places under `hashes` hashes, and ends the test unless just the odd ones are noted where
-/// `odd`, and none otherwise.
+/// Looks in `index` for all places under `hashes` hashes, and ends the test unless just the odd ones are
+/// noted where `odd`, and none otherwise.
 fn find_all(rt: &impl Abort, index: &PlaceIndex, hashes: u32, odd: bool) {
     for place in 0..MANY {
         let is = is_noted(index, hash_of(place, hashes), place);
@@ -201,8 +203,8 @@ fn note_all(rt: &impl Abort, index: &mut PlaceIndex) -> Plain {
     list
 }
 
-/// A hash by `random`: half of the time `its`, the hash that a place is noted under, if there is one, and otherwise
-/// any.
+/// A hash by `random`: half of the time `its`, the hash that a place is noted under, if there is one, and
+/// otherwise any.
 fn hash_by(random: u32, its: Option<u32>) -> u32 {
     let other = (random >> 24) % 40;
     if random >> 20 & 1 == 0 {

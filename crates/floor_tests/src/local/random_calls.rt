@@ -138,8 +138,8 @@ pub(super) fn random_owner(random: u32) -> Owner {
     }
 }
 
-/// Counts `tag` in `mode` once more for `owner` in both `table` and `list` where it is held, and answers whether
-/// `table` says rightly whether it is.
+/// Counts `tag` in `mode` once more for `owner` in both `table` and `list` where it is held, and answers
+/// whether `table` says rightly whether it is.
 fn add_held(
     rt: &impl Abort,
     table: &mut LocalTable,

@@ -75,7 +75,8 @@ const ONE_LOOK_SHOWS_WHAT_A_RELATION_IS_HELD_IN: [Turn; 14] = [
     (1, Entries, Number(0)),
 ];
 
-/// Turns that reach both limits: an owner counts to 65,535, and the table of these turns has two entries at most.
+/// Turns that reach both limits: an owner counts to 65,535, and the table of these turns has two entries at
+/// most.
 const THE_LIMITS_ARE_KEPT: [Turn; 15] = [
     (1, Acquire(ANOTHER_OBJECT, Share, Transaction), Granted),
     (

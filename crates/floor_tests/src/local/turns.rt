@@ -82,8 +82,8 @@ fn released(answer: Result<Unlocked, Refusal>) -> Answer {
     }
 }
 
-/// The `Answer` that `answer`, to `drop_at_once`, is in a list of turns: `Unknown` where one look at a slot doesn't
-/// decide it.
+/// The `Answer` that `answer`, to `drop_at_once`, is in a list of turns: `Unknown` where one look at a slot
+/// doesn't decide it.
 fn released_at_once(answer: Option<Unlocked>) -> Answer {
     match answer {
         Some(answer) => released(Ok(answer)),
@@ -128,8 +128,8 @@ fn make(rt: &impl Abort, table: &mut LocalTable, call: Call) -> Answer {
     }
 }
 
-/// Makes the call of `turn` in `table` as often as `turn` says, and answers whether each answer is the one that
-/// `turn` says.
+/// Makes the call of `turn` in `table` as often as `turn` says, and answers whether each answer is the one
+/// that `turn` says.
 fn take(rt: &impl Abort, table: &mut LocalTable, turn: Turn) -> bool {
     let (times, call, answer) = turn;
     for _ in 0..times {

@@ -8,8 +8,8 @@ use lock_table::{NoMemory, PartTable};
 use modes_core::{Mode, SessionId, Tag};
 use std::process::Abort;
 
-/// Ends the wait of `session` for `tag` in `part`, if any, and answers whether the session may ask for `tag` in
-/// `mode`: whether it doesn't hold that.
+/// Ends the wait of `session` for `tag` in `part`, if any, and answers whether the session may ask for `tag`
+/// in `mode`: whether it doesn't hold that.
 fn may_ask<P: PartTable>(part: &mut P, session: SessionId, tag: &Tag, mode: Mode) -> bool
     ensures new { result ≡ true → (P.content part.new).holds session tag.now mode ≡ false }
     ensures no_wait { waits_there ((P.content part.new).waits tag.now) session ≡ false }
@@ -31,8 +31,8 @@ pub enum Outcome {
     Waits(usize),
 }
 
-/// Has `session` ask for `tag` in `mode` in `part`, which comes to `outcome`, where it doesn't hold that yet. Answers
-/// whether it has got there: whether it didn't hold that before, and the request wasn't given up.
+/// Has `session` ask for `tag` in `mode` in `part`, which comes to `outcome`, where it doesn't hold that yet.
+/// Answers whether it has got there: whether it didn't hold that before, and the request wasn't given up.
 pub fn ask<P: PartTable>(
     part: &mut P,
     session: SessionId,

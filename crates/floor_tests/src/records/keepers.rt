@@ -41,8 +41,8 @@ fn session_of(rt: &impl Abort, number: u32) -> SessionId {
     SessionId::new((number % 16) as u16).expect(rt, "a session")
 }
 
-/// Makes the call that `seed` chooses on both keepers, `plain` and `records`, and ends the test unless their answers
-/// are alike.
+/// Makes the call that `seed` chooses on both keepers, `plain` and `records`, and ends the test unless their
+/// answers are alike.
 fn call_both(
     rt: &impl Abort,
     plain: &mut PlainPart,
@@ -123,8 +123,8 @@ fn list_both(
     Ok(())
 }
 
-/// Makes all calls of the test on both keepers, `plain` and `records`, and compares their rows after each hundredth
-/// call.
+/// Makes all calls of the test on both keepers, `plain` and `records`, and compares their rows after each
+/// hundredth call.
 fn call_in_turn(
     rt: &impl Abort,
     alloc: Global,

@@ -32,7 +32,8 @@ fn hold_all(rt: &impl Abort, part: &mut RecordPart) -> Result<(), NoMemory>
     Ok(())
 }
 
-/// Sees that each object of `part` is counted by itself, and that its holder is in the way of another session.
+/// Sees that each object of `part` is counted by itself, and that its holder is in the way of another
+/// session.
 fn look_at_all(rt: &impl Abort, part: &RecordPart) {
     for number in 0..OBJECTS {
         let tag = object(number);

@@ -9,8 +9,8 @@ use std::alloc::{AllocError, Global};
 use std::process::Abort;
 use std::test::Fail;
 
-/// The caller `b`, as a command names it where three sessions are open. Where `b` is no session name, the test ends
-/// by `rt`.
+/// The caller `b`, as a command names it where three sessions are open. Where `b` is no session name, the
+/// test ends by `rt`.
 fn caller(rt: &impl Abort) -> Caller {
     let name = name(rt, "b");
     Caller { name, place: 1 }
@@ -47,8 +47,8 @@ fn object_name(rt: &impl Abort, text: &str) -> ObjectName {
     ObjectName::from(text).expect(rt, "an object's name")
 }
 
-/// Two objects with names, in a list that grows by `alloc`: `accounts`, the relation, and `_A.$9`, the advisory lock.
-/// The test ends by `rt` where a name or an object is in the list already.
+/// Two objects with names, in a list that grows by `alloc`: `accounts`, the relation, and `_A.$9`, the
+/// advisory lock. The test ends by `rt` where a name or an object is in the list already.
 fn two_objects(rt: &impl Abort, alloc: Global) -> Result<ObjectNames, AllocError> {
     let mut objects = ObjectNames::new(alloc);
     for (text, tag) in [("accounts", RELATION), ("_A.$9", ADVISORY)] {
@@ -60,8 +60,8 @@ fn two_objects(rt: &impl Abort, alloc: Global) -> Result<ObjectNames, AllocError
     Ok(objects)
 }
 
-/// Lines with commands that open a session, or take or give back a lock. Where a session's name can't be made, the
-/// test ends by `rt`.
+/// Lines with commands that open a session, or take or give back a lock. Where a session's name can't be
+/// made, the test ends by `rt`.
 fn commands_on_locks(rt: &impl Abort) -> [(&'static str, Command); 7] {
     let name = name(rt, "c_1");
     let database = 4_294_967_295;
@@ -97,8 +97,8 @@ fn commands_on_locks(rt: &impl Abort) -> [(&'static str, Command); 7] {
     ]
 }
 
-/// Lines with commands that neither open a session nor take or give back a lock. Where a session's name can't be
-/// made, the test ends by `rt`.
+/// Lines with commands that neither open a session nor take or give back a lock. Where a session's name can't
+/// be made, the test ends by `rt`.
 fn other_commands(rt: &impl Abort) -> [(&'static str, Command); 12] {
     let name = name(rt, "d");
     let place = Place::Waiting(0);
@@ -127,8 +127,8 @@ fn other_commands(rt: &impl Abort) -> [(&'static str, Command); 12] {
 /// An object's name that is as long as such a name may be.
 const LONGEST: &str = "a23456789_123456789_123456789_123456789_123456789_123456789_123";
 
-/// Ends the test where a line of `rows`, parsed with `sessions` open and `objects` named, isn't answered as the row
-/// says.
+/// Ends the test where a line of `rows`, parsed with `sessions` open and `objects` named, isn't answered as
+/// the row says.
 fn expect_commands(
     rt: &impl Abort,
     sessions: &OpenSessions<u32, u32>,
@@ -143,16 +143,16 @@ fn expect_commands(
     }
 }
 
-/// Ends the test where an empty line or a comment is parsed as a command, with sessions called as in `sessions` and
-/// objects as in `objects`.
+/// Ends the test where an empty line or a comment is parsed as a command, with sessions called as in
+/// `sessions` and objects as in `objects`.
 fn expect_silence(rt: &impl Abort, sessions: &OpenSessions<u32, u32>, objects: &ObjectNames) {
     for line in ["", " \t", "#", "#session a 5"] {
         assert!(rt; parse(line, sessions, objects) == Ok(None), "{line}");
     }
 }
 
-/// Ends the test where a line that gives an object a name isn't parsed as that command, or a line whose name is too
-/// long isn't refused, with sessions called as in `sessions` and objects as in `objects`.
+/// Ends the test where a line that gives an object a name isn't parsed as that command, or a line whose name
+/// is too long isn't refused, with sessions called as in `sessions` and objects as in `objects`.
 fn expect_namings<H: AllocGlobal + Abort>(
     rt: &H,
     sessions: &OpenSessions<u32, u32>,
@@ -214,8 +214,8 @@ const DEFECTS: [(&str, Defect); 24] = [
     ("name more accounts", Defect::ObjectNamed),
 ];
 
-/// Ends the test where the defect of a line of `rows`, parsed with `sessions` open and `objects` named, isn't the one
-/// that the row says.
+/// Ends the test where the defect of a line of `rows`, parsed with `sessions` open and `objects` named, isn't
+/// the one that the row says.
 fn expect_defects(
     rt: &impl Abort,
     sessions: &OpenSessions<u32, u32>,

@@ -3,8 +3,8 @@
 use lock_script::{Defect, Fault, LineReader};
 use std::io::{self, ErrorKind, Read};
 
-/// A reader of a text that gives a fixed number of bytes a read, is interrupted before each read, and fails at the
-/// end of the text if `fails` says so.
+/// A reader of a text that gives a fixed number of bytes a read, is interrupted before each read, and fails
+/// at the end of the text if `fails` says so.
 #[derive(Drop)]
 struct Text<'a> {
     left: &'a [u8],

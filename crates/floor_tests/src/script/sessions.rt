@@ -61,8 +61,8 @@ fn sessions_stand_by_their_names(rt: HostRuntime) -> Result<(), Fail> {
     Ok(())
 }
 
-/// The names of two sessions by their numbers: `b` has number 0, `a` has number 1. Where a session's name can't be
-/// made, the test ends by `rt`.
+/// The names of two sessions by their numbers: `b` has number 0, `a` has number 1. Where a session's name
+/// can't be made, the test ends by `rt`.
 fn two(rt: &impl Abort) -> SessionNames {
     let mut names = SessionNames::new();
     names.push(name(rt, "b"));

@@ -70,7 +70,8 @@ enum SideBySide {
     Latecomer,
 }
 
-/// Has `first` and `second` do side by side what `what` says; `owner` is the session whose slots' lock they race for.
+/// Has `first` and `second` do side by side what `what` says; `owner` is the session whose slots' lock they
+/// race for.
 fn run_both<B: Board<PlainPart> + Send, R: Abort + Clock + Threads + Wait + Sync>(
     rt: &R,
     first: &mut B,
@@ -124,8 +125,8 @@ fn who_comes_for_a_lock_as_it_is_put_is_not_left_asleep(rt: HostRuntime) -> Resu
     of_two(&rt, rt.alloc(), SideBySide::Latecomer)
 }
 
-/// Takes partition 3 by `board`, that of a session that has nothing, and puts it back, twice. Answers what the
-/// session's wait word shows after that.
+/// Takes partition 3 by `board`, that of a session that has nothing, and puts it back, twice. Answers what
+/// the session's wait word shows after that.
 fn keep_twice<T: PartTable, B: Board<T>, R: Wait>(rt: &R, board: &mut B) -> u64
     requires blank { B.view board.old ≡ blank_account }
     requires stack { B.stack board.old ≡ nothing_due }

@@ -1,6 +1,6 @@
-//! A session holds a lightweight lock and puts it back just as another one, which came for it, goes on its way from its
-//! last attempt to the lock's wait list. There no release wakes it. So it attempts once more after that, and nobody is
-//! left asleep.
+//! A session holds a lightweight lock and puts it back just as another one, which came for it, goes on its
+//! way from its last attempt to the lock's wait list. There no release wakes it. So it attempts once more
+//! after that, and nobody is left asleep.
 
 ghost use Rattle.std.specs.Prelude.{◌<◌};
 ghost use Rattle.floor_tests.specs.Rests.{Rests, RestsAgain};
@@ -16,8 +16,8 @@ use std::sync::Wait;
 use std::thread::{Threads, join_mut};
 use std::time::Clock;
 
-/// How often two threads begin for a lock. Threads that begin are given processors of their own; later on a session that
-/// is woken often shares the waker's, and then no step of one falls between two of the other.
+/// How often two threads begin for a lock. Threads that begin are given processors of their own; later on a
+/// session that is woken often shares the waker's, and then no step of one falls between two of the other.
 const BEGINNINGS: u64 = 2_500;
 
 /// The partition that two sessions race for.
@@ -100,8 +100,8 @@ fn visit<T: PartTable, B: Board<T>, R: Abort + Clock + Wait>(
     round.end(rt, came_soon);
 }
 
-/// Takes the lock of `racer` by `board`, and puts it back, in each round of `beginning`; where it is of slots, of those
-/// of `owner`.
+/// Takes the lock of `racer` by `board`, and puts it back, in each round of `beginning`; where it is of
+/// slots, of those of `owner`.
 fn visit_some<T: PartTable, B: Board<T>, R: Abort + Clock + Wait>(
     rt: &R,
     board: &mut B,
@@ -123,8 +123,8 @@ fn visit_some<T: PartTable, B: Board<T>, R: Abort + Clock + Wait>(
     }
 }
 
-/// Has `first` and `second` race for a lock, which they take as `locks` says, with threads that begin over and over;
-/// where the lock is of slots, of those of `owner`.
+/// Has `first` and `second` race for a lock, which they take as `locks` says, with threads that begin over
+/// and over; where the lock is of slots, of those of `owner`.
 fn race_for<B: Board<PlainPart> + Send, R: Abort + Clock + Threads + Wait + Sync>(
     rt: &R,
     first: &mut B,

@@ -12,9 +12,9 @@ use std::process::Abort;
 use std::sync::Wait;
 use std::test::Fail;
 
-/// Sets two modes of a relation in the first slot by `board`, that of a session that has nothing, one after the
-/// other, and answers the number that the slot shows after that; `None` where somebody has counted a strong lock of
-/// the relation's index.
+/// Sets two modes of a relation in the first slot by `board`, that of a session that has nothing, one after
+/// the other, and answers the number that the slot shows after that; `None` where somebody has counted a
+/// strong lock of the relation's index.
 fn set_twice<T: PartTable, B: Board<T>, R: Wait>(rt: &R, board: &mut B) -> Option<u64>
     requires blank { B.view board.old ≡ blank_account }
     requires stack { B.stack board.old ≡ nothing_due }
@@ -39,8 +39,8 @@ fn set_twice<T: PartTable, B: Board<T>, R: Wait>(rt: &R, board: &mut B) -> Optio
     Some(board.load_slot(own, 0).number())
 }
 
-/// Shares the lock of a session's own slots by `board`, that of a session that has nothing, and answers what the
-/// session sees meanwhile: its database, and the number of its last slot. The lock is given back.
+/// Shares the lock of a session's own slots by `board`, that of a session that has nothing, and answers what
+/// the session sees meanwhile: its database, and the number of its last slot. The lock is given back.
 fn read_shared<T: PartTable, B: Board<T>, R: Wait>(rt: &R, board: &mut B) -> (u64, u64)
     requires blank { B.view board.old ≡ blank_account }
     requires stack { B.stack board.old ≡ nothing_due }
@@ -59,8 +59,8 @@ fn read_shared<T: PartTable, B: Board<T>, R: Wait>(rt: &R, board: &mut B) -> (u6
     (database, shown.number())
 }
 
-/// Counts a strong lock on a relation by `board`, that of a session that has nothing, and answers what the relation's
-/// strong lock counter shows after that.
+/// Counts a strong lock on a relation by `board`, that of a session that has nothing, and answers what the
+/// relation's strong lock counter shows after that.
 fn count_once<T: PartTable, B: Board<T>>(board: &mut B) -> u64
     requires blank { B.view board.old ≡ blank_account }
 {
@@ -99,8 +99,8 @@ fn a_lock_that_was_shared_is_free_again(rt: HostRuntime) -> Result<(), Fail> {
     Ok(())
 }
 
-// A second try with the lock in hand is against the order of locks. That a try of a lock that another session holds is
-// busy is tested above, where two sessions meet at the slots of one.
+// A second try with the lock in hand is against the order of locks. That a try of a lock that another session
+// holds is busy is tested above, where two sessions meet at the slots of one.
 #[test]
 fn a_lock_that_nobody_holds_is_taken_at_the_first_try(rt: HostRuntime) -> Result<(), Fail> {
     let mut board = one_thread(rt.alloc())?;

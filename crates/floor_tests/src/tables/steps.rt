@@ -25,13 +25,13 @@ pub enum Step {
     Wakes(Tag, &'static [(u16, Mode)]),
     /// The object's queue has the waits of the sessions with these numbers, from the front.
     Queue(Tag, &'static [u16]),
-    /// The first session in the object's queue waits for this mode, and held the object in the modes of this mask as
-    /// it joined.
+    /// The first session in the object's queue waits for this mode, and held the object in the modes of this
+    /// mask as it joined.
     First(Tag, Mode, u16),
     /// The session with this number holds the object in the modes of this mask.
     Has(u16, Tag, u16),
-    /// A request of the first session for the object in the first mode meets the second session, which holds the
-    /// second mode: the first hold in conflict.
+    /// A request of the first session for the object in the first mode meets the second session, which holds
+    /// the second mode: the first hold in conflict.
     Meets(u16, Tag, Mode, u16, Mode),
     /// The answer that the session with this number would get if it asked for this mode on the object.
     Asks(u16, Tag, Mode, Told),
@@ -47,8 +47,8 @@ pub enum Told {
     Deadlock(u16),
 }
 
-/// Begins the request of `session` in `part` for `tag` in `mode`. Where memory is refused, nothing changes and a
-/// second attempt is made. Where the request may not be made, the test ends by `rt`.
+/// Begins the request of `session` in `part` for `tag` in `mode`. Where memory is refused, nothing changes
+/// and a second attempt is made. Where the request may not be made, the test ends by `rt`.
 fn begins<P: PartTable>(
     rt: &impl Abort,
     part: &mut P,
@@ -111,8 +111,8 @@ pub fn queue_is<P: PartTable>(part: &P, tag: &Tag, numbers: &[u16]) -> bool {
     part.waiter(tag, numbers.len()).is_none()
 }
 
-/// Whether the first session in the queue of `tag` in `part` waits for `mode`, and held `tag` in the modes of the
-/// mask `held` as it joined.
+/// Whether the first session in the queue of `tag` in `part` waits for `mode`, and held `tag` in the modes of
+/// the mask `held` as it joined.
 fn first_is<P: PartTable>(part: &P, tag: &Tag, mode: Mode, held: u16) -> bool {
     match part.waiter(tag, 0) {
         Some(first) => first.mode == mode && first.held.mask() == held,
@@ -129,8 +129,8 @@ fn meant(rt: &impl Abort, told: Told) -> Answer {
     }
 }
 
-/// Does with `part` what `step` says, or looks at what `step` names, and answers whether that comes out as `step`
-/// says.
+/// Does with `part` what `step` says, or looks at what `step` names, and answers whether that comes out as
+/// `step` says.
 fn make<P: PartTable>(rt: &impl Abort, part: &mut P, step: Step) -> Result<bool, NoMemory>
     requires none_begun { P.begun part.old ≡ None }
     ensures none_begun { P.begun part.new ≡ None }

@@ -81,7 +81,8 @@ impl Orders<'_> {
         }
     }
 
-    /// Whose line comes next in an order that is drawn: a session that can go on is the more likely the more lines it has left.
+    /// Whose line comes next in an order that is drawn: a session that can go on is the more likely the more
+    /// lines it has left.
     fn draw(&mut self) -> Choice
         ensures { KeepsOrder self.old self.new }
     {
@@ -134,8 +135,9 @@ impl Orders<'_> {
         }
     }
 
-    /// Whether the next line of `session` could have come before a line of a later session, with no line from that one on that it has to do with. If so, the
-    /// order in which it comes before ends alike, and is run earlier.
+    /// Whether the next line of `session` could have come before a line of a later session, with no line from
+    /// that one on that it has to do with. If so, the order in which it comes before ends alike, and is run
+    /// earlier.
     fn comes_late(&self, session: usize) -> bool {
         let Some(line) = self.order.taken.get(session).copied() else {
             return false;
@@ -156,8 +158,8 @@ impl Orders<'_> {
         false
     }
 
-    /// Whether the next line of `session`, if it comes now, has the next line of an earlier session come late for good: no line is left that the earlier
-    /// session's line has to do with.
+    /// Whether the next line of `session`, if it comes now, has the next line of an earlier session come late
+    /// for good: no line is left that the earlier session's line has to do with.
     fn passes_one_over(&self, session: usize) -> bool {
         let Some(own) = self.order.taken.get(session).copied() else {
             return false;

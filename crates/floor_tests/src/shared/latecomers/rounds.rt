@@ -1,5 +1,5 @@
-//! The rounds of a race for a lock, which two threads count together: one holds it for a while, and the other one comes
-//! for it.
+//! The rounds of a race for a lock, which two threads count together: one holds it for a while, and the other
+//! one comes for it.
 
 use std::process::Abort;
 use std::sync::atomic::{AtomicU64, Ordering};
@@ -9,8 +9,9 @@ use std::time::{Clock, Duration};
 /// How many rounds two threads have each time that they begin.
 pub const ROUNDS: u64 = 8;
 
-/// How often a session looks for the other one before it leaves its processor between looks. A session that sleeps
-/// for a lock has it later than after this many looks, and one that attempts it once more has it sooner.
+/// How often a session looks for the other one before it leaves its processor between looks. A session that
+/// sleeps for a lock has it later than after this many looks, and one that attempts it once more has it
+/// sooner.
 const SOON: u64 = 4_000;
 
 /// How often a session looks before it sleeps between two looks.
@@ -22,8 +23,8 @@ const PAUSES: u32 = 2_000;
 /// For how many milliseconds a session sleeps between two looks.
 const PAUSE: u64 = 10;
 
-/// How many looks longer the lock is held after a round in which the other session had it soon. With `SHORTER`,
-/// rounds end close to the moment at which that session goes to sleep.
+/// How many looks longer the lock is held after a round in which the other session had it soon. With
+/// `SHORTER`, rounds end close to the moment at which that session goes to sleep.
 const LONGER: u64 = 16;
 
 /// How many looks shorter the lock is held after a round in which the other session slept for it.
@@ -101,8 +102,8 @@ impl Rounds {
         }
     }
 
-    /// Holds the lock for some looks once the other session comes in `round`, and answers whether that session came
-    /// soon.
+    /// Holds the lock for some looks once the other session comes in `round`, and answers whether that
+    /// session came soon.
     fn hold<R: Abort + Clock>(&self, rt: &R, round: u64) -> bool {
         self.held.store(round, Ordering::SeqCst);
         let is_soon = comes_soon(&self.came, round);
@@ -119,8 +120,9 @@ impl Rounds {
         is_soon
     }
 
-    /// Ends the test unless the lock was put back, and the other session has had it too, in `round`. Where the other
-    /// session `came_soon`, how soon it had the lock decides for how long the lock is held in the next round.
+    /// Ends the test unless the lock was put back, and the other session has had it too, in `round`. Where
+    /// the other session `came_soon`, how soon it had the lock decides for how long the lock is held in the
+    /// next round.
     fn expect_over<R: Abort + Clock>(&self, rt: &R, round: u64, came_soon: bool) {
         let is_soon = comes_soon(&self.over, round);
         assert!(rt;
@@ -176,8 +178,8 @@ impl Round<'_> {
         }
     }
 
-    /// Stays for as long as the session is to have the lock, which it has. Answers whether it is the holder and the
-    /// other session came soon.
+    /// Stays for as long as the session is to have the lock, which it has. Answers whether it is the holder
+    /// and the other session came soon.
     pub fn stay<R: Abort + Clock>(&self, rt: &R) -> bool {
         match self.role {
             Role::Holder => self.rounds.hold(rt, self.number),
