@@ -1,6 +1,7 @@
 -- The lemmas that proofs of several functions share.
 pub mod Actions
 pub mod Numbers
+pub mod Failing
 pub mod Hearing
 pub mod InTime
 pub mod InTurn

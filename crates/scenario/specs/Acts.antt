@@ -1,4 +1,4 @@
-use Rattle.std.specs.Prelude.{ℕ, Bool, List, [], ⊤, Option, Result, Ok, Err, IfSome, OnOk}
+use Rattle.std.specs.Prelude.{◌≡◌, ℕ, Bool, false, List, [], ⊤, Option, Result, Ok, Err, IfSome}
 use Rattle.std.specs.Io.KnownBytes.{Appends}
 use Rattle.local_locks.specs.declared.records.Entry.{Entry}
 use Rattle.lock_manager.specs.Sessions.{SessionView}
@@ -38,6 +38,12 @@ UnlessUnheard (Err WriteFailed) P = ⊤
 UnlessUnheard (Err NoMemory) P = ⊤
 UnlessUnheard (Err GateHeld) P = ⊤
 
+-- P, of a script that ended so: of one that speaks SQL at its end alone, and of another one unless the output
+-- or the memory failed
+abbrev pub WhereKnown : Bool → Result (Unit {0}) Fault → Type 0 → Type 0
+WhereKnown speaks (Ok ended) P = P
+WhereKnown speaks (Err fault) P = speaks ≡ false → UnlessUnheard (Err fault) P
+
 -- What was heard is so, and the text of all of it stands behind what a writer had, where its bytes and that
 -- text are known.
 pub record Writes (IsSo : List Heard → Type 0) (json is_echoing : Bool) (before after : Option (List ℕ)) : Type 0 where
@@ -49,24 +55,24 @@ pub record Writes (IsSo : List Heard → Type 0) (json is_echoing : Bool) (befor
 
 module _
     {B : Type 0} (seat : B → Seated) (view : B → Account) (stack : B → Stack) (again : Bool) (database_of : SessionView B → ℕ) (entries : SessionView B → List Entry) where
-  -- A script was heard to its end, where lines of it are kept.
-  abbrev pub IsKeptHeard : {L : Type 0} → (L → Heard → L → Type 0) → Bool → Bool → Option (List ℕ) → Cast B → L → L → Type 0
-  IsKeptHeard hears speaks keeps script old before now =
-      Hears hears before now (PlaysKept seat view stack again database_of entries speaks keeps script old)
+  -- A script was heard, where lines of it are kept.
+  abbrev pub IsKeptHeard : {L : Type 0} → (L → Heard → L → Type 0) → Bool → Bool → Option (List ℕ) → Cast B → L → Result (Unit {0}) Fault → L → Type 0
+  IsKeptHeard hears speaks keeps script old before ended now =
+      WhereKnown speaks ended (Hears hears before now (PlaysKept seat view stack again database_of entries speaks keeps script old ended))
 
   -- A script was heard, in the manner in which its lines are run.
   abbrev pub IsHeardInManner : {L : Type 0} → (L → Heard → L → Type 0) → Manner → Option (List ℕ) → Cast B → L → Result (Unit {0}) Fault → L → Type 0
   IsHeardInManner hears Plain script old before ended now =
       IsScriptHeard seat view stack again database_of entries hears script old before ended now
   IsHeardInManner hears (Keeping keeping) script old before ended now =
-      OnOk ended (IsKeptHeard hears keeping.speaks keeping.keeps script old before now)
+      IsKeptHeard hears keeping.speaks keeping.keeps script old before ended now
 
   -- A script is run from nothing, and what is heard of it is written.
   abbrev pub WritesScript : Option (List ℕ) → Bool → Bool → Option (List ℕ) → Result (Unit {0}) Fault → Option (List ℕ) → Type 0
   WritesScript script json is_echoing before ended after =
       Writes (PlaysScript seat view stack again database_of entries script no_cast ended) json is_echoing before after
 
-  -- A script of which lines are kept is run from nothing to its end, and what is heard of it is written.
-  abbrev pub WritesKept : Bool → Bool → Option (List ℕ) → Bool → Bool → Option (List ℕ) → Option (List ℕ) → Type 0
-  WritesKept speaks keeps script json is_echoing before after =
-      Writes (PlaysKept seat view stack again database_of entries speaks keeps script no_cast) json is_echoing before after
+  -- A script of which lines are kept is run from nothing, and what is heard of it is written.
+  abbrev pub WritesKept : Bool → Bool → Option (List ℕ) → Bool → Bool → Option (List ℕ) → Result (Unit {0}) Fault → Option (List ℕ) → Type 0
+  WritesKept speaks keeps script json is_echoing before ended after =
+      Writes (PlaysKept seat view stack again database_of entries speaks keeps script no_cast ended) json is_echoing before after

@@ -1,11 +1,13 @@
-use Rattle.std.specs.Prelude.{◌≡◌, ◌⊎◌, ◌&&◌, ℕ, ◌+◌, Bool, MatchBool, if◌then◌else◌, is_none, List, [], ◌∷◌, ◌++◌, codes, length, map, string_bytes, Option, None, IfSome, Ok}
+use Rattle.std.specs.Prelude.{◌≡◌, ◌⊎◌, ◌&&◌, ℕ, ◌+◌, Bool, MatchBool, if◌then◌else◌, is_none, List, [], ◌∷◌, ◌++◌, codes, map, string_bytes, ⊤}
 use Rattle.std.specs.List.{flat_map}
 use Rattle.std.specs.Str.{bytes_eq}
 use Rattle.modes_core.specs.TagText.{tag_text}
 use Rattle.lock_script.specs.Kept.{HasToWait, IsLowest, NoneReady, lines_of}
-use Rattle.lock_script.specs.Lines.{reading_of}
 use Rattle.lock_script.specs.Names.{IsFree}
 use Rattle.lock_script.specs.Objects.{is_object_name, name_given, tag_called}
+use Rattle.lock_script.specs.declared.faults.Defect.{Defect}
+use Rattle.lock_script.specs.declared.faults.Fault.{Fault}
+use Rattle.lock_script.specs.declared.faults.Fault.TheVariants.{BadLine, ReadFailed, WriteFailed, NoMemory, GateHeld}
 use Rattle.lock_script.specs.declared.kept.KeptLine.{KeptLine}
 use Rattle.lock_script.specs.declared.kept.KeptQueue.{KeptQueue}
 use Rattle.lock_script.specs.declared.objects.NamedObject.{NamedObject}
@@ -15,7 +17,7 @@ use Rattle.sql_script.specs.declared.lines.Heard.{Heard}
 use Rattle.sql_script.specs.declared.lines.Heard.TheVariants.{Plain, Schema, Statements}
 use Rattle.sql_script.specs.declared.turns.Table.{Table}
 use Rattle.sql_script.specs.declared.turns.Turn.{Turn}
-use Rattle.scenario.specs.Scripts.{AreFirstLines, ScriptLine}
+use Rattle.scenario.specs.Scripts.{ScriptLine}
 use Rattle.scenario.specs.Spoken.{IsSaid}
 
 -- What is done of lines where some are kept: each is run, or kept behind those of its session, and run once
@@ -58,12 +60,22 @@ may_be_named objects table =
 abbrev pub tables_in : List Turn → List Table
 tables_in turns = flat_map (λ turn. turn.named.items) turns
 
+-- A fault is that of a bad line, which is as P says; or the output or the memory failed.
+abbrev pub IsBad : {C : Type 0} → (ScriptLine → Defect → C → Type 0) → C → Fault → Type 0
+IsBad P new (BadLine line what) = (bad : ScriptLine) × (line ≡ bad.number) × P bad what new
+IsBad P new ReadFailed = ⊥
+IsBad P new WriteFailed = ⊤
+IsBad P new NoMemory = ⊤
+IsBad P new GateHeld = ⊥
+
 -- What lines do to those on whom they act.
 pub record Play (C W : Type 0) : Type 1 where
   -- a line is run, or told to be kept, or told alone
   pub Runs : C → ScriptLine → C → Type 0
   pub Keeps : C → ScriptLine → C → Type 0
   pub Shows : C → ScriptLine → C → Type 0
+  -- a line is told alone, and is bad: it has this defect
+  pub Fails : C → ScriptLine → Defect → C → Type 0
   -- the sessions that wait, and the objects that have names
   pub waiting : C → List (Named W)
   pub objects : C → List NamedObject
@@ -136,10 +148,28 @@ module _ {C W : Type 0} (play : Play C W) where
       (said : Heard) × (next : C) × (some : List KeptQueue) × IsSaid speaks text said
       × DoesLine keeps old kept (record { number = number; text = text }) said next some × DoesLines speaks keeps (number + 1) next some texts new left
 
-  -- A script was done, to its end: all of its lines were, and these were kept and not reached.
-  pub record DoesScript (speaks keeps : Bool) (script : Option (List ℕ)) (old new : C) (left : List KeptQueue) : Type 0 where
-    pub texts : List (List ℕ)
-    pub unread : Option (List ℕ)
-    pub lines : AreFirstLines script texts unread
-    pub all : IfSome unread (λ bytes. reading_of (length texts) bytes ≡ Ok None)
-    pub does : DoesLines speaks keeps 1 old [] texts new left
+  -- Kept lines are run up to one that is bad.
+  pub record FailsKept (old : C) (kept : List KeptQueue) (bad : ScriptLine) (what : Defect) (new : C) : Type 0 where
+    pub lines : List (List ℕ × ScriptLine)
+    pub mid : C
+    pub some : List KeptQueue
+    pub runs : RunsEach old kept lines mid some
+    pub name : List ℕ
+    pub left : List KeptQueue
+    pub next : IsNext (play.waiting mid) some name bad left
+    pub fails : play.Fails mid bad what new
+
+  -- A line is run and is bad, or a kept one is that is run behind it.
+  abbrev pub FailsNow : C → List KeptQueue → ScriptLine → ScriptLine → Defect → C → Type 0
+  FailsNow old kept line bad what new =
+      ((bad ≡ line) × play.Fails old line what new) ⊎ ((next : C) × play.Runs old line next × FailsKept next kept bad what new)
+
+  -- A line that is to be kept is told so, and is bad; or one that is run is, or a kept one behind it.
+  abbrev pub FailsIn : C → List KeptQueue → ScriptLine → ScriptLine → Defect → C → Type 0
+  FailsIn old kept line bad what new =
+      ((name : List ℕ) × HasToWait kept (play.waiting old) line.text name × (bad ≡ line) × play.Keeps old line new)
+      ⊎ (((name : List ℕ) → ¬ HasToWait kept (play.waiting old) line.text name) × FailsNow old kept line bad what new)
+
+  -- A line that says no SQL is bad, or a kept one is that is run behind it.
+  abbrev pub FailsPlain : Bool → C → List KeptQueue → ScriptLine → ScriptLine → Defect → C → Type 0
+  FailsPlain keeps old kept line bad what new = MatchBool keeps (FailsIn old kept line bad what new) (FailsNow old kept line bad what new)

@@ -1,9 +1,9 @@
 //! Runs in which a line whose session waits is kept until that goes on.
-ghost use Rattle.std.specs.Prelude.{◌≡◌, ◌^◌, ◌-◌, IfOk, None, OnOk, map, min};
+ghost use Rattle.std.specs.Prelude.{◌≡◌, ◌⊎◌, ◌^◌, ◌-◌, IfErr, IfOk, None, OnOk, map, min};
 ghost use Rattle.lock_manager.specs.Crews.{SeatsAre};
 ghost use Rattle.lock_script.specs.Kept.{kept_count};
-ghost use Rattle.scenario.specs.Heard.{Kept, Left};
-ghost use Rattle.scenario.specs.InTurn.{DoesLine, IsKeptFor, RunsKept, TakesIn};
+ghost use Rattle.scenario.specs.Heard.{IsUnheard, Kept, Left};
+ghost use Rattle.scenario.specs.InTurn.{DoesLine, FailsIn, FailsKept, FailsPlain, IsBad, IsKeptFor, RunsKept, TakesIn};
 ghost use Rattle.scenario.specs.Spoken.{IsHeardBy};
 ghost use Rattle.sql_script.specs.declared.lines.Heard.{Heard as Said};
 ghost use Rattle.scenario.specs.Acts.{IsKeptHeard};
@@ -42,9 +42,9 @@ impl<T: PartTable, B: Board<T>, D: ScriptDesk<OwnSession<T, B>>, L: Listener> Sc
         keeping: Keeping,
     ) -> Result<(), Fault>
         requires seats { SeatsAre B.seat D.seat }
-        ensures played { OnOk result (IsKeptHeard B.seat B.view B.stack D.again D.database_of D.entries L.hears keeping.speaks
-            keeping.keeps (R.remaining reader) (record { sessions = self.old.state.sessions; names = self.old.state.names })
-            self.old.listener self.new.listener) }
+        ensures played { IsKeptHeard B.seat B.view B.stack D.again D.database_of D.entries L.hears keeping.speaks keeping.keeps
+            (R.remaining reader) (record { sessions = self.old.state.sessions; names = self.old.state.names }) self.old.listener
+            result self.new.listener }
         ensures manager { D.manager self.new.state.desk ≡ D.manager self.old.state.desk }
     {
         let mut lines = LineReader::new(reader);
@@ -81,6 +81,11 @@ impl<T: PartTable, B: Board<T>, D: ScriptDesk<OwnSession<T, B>>, L: Listener> Sc
             (stage_of self.old.state.sessions self.old.state.names self.old.listener) kept.old
             (record { number = line.entry.number; text = line.entry.text.now }) said
             (stage_of self.new.state.sessions self.new.state.names self.new.listener) kept.new) }
+        ensures bad { script.old.script ≡ None → IfErr result (IsBad (FailsPlain
+            (play_of B.seat B.view B.stack D.again D.database_of D.entries L.hears) keeping.keeps
+            (stage_of self.old.state.sessions self.old.state.names self.old.listener) kept.old
+            (record { number = line.entry.number; text = line.entry.text.now }))
+            (stage_of self.new.state.sessions self.new.state.names self.new.listener)) }
         ensures silent { script.old.script ≡ None → script.new.script ≡ None }
         ensures manager { D.manager self.new.state.desk ≡ D.manager self.old.state.desk }
     {
@@ -103,6 +108,10 @@ impl<T: PartTable, B: Board<T>, D: ScriptDesk<OwnSession<T, B>>, L: Listener> Sc
             (stage_of self.old.state.sessions self.old.state.names self.old.listener) kept.old
             (record { number = line.entry.number; text = line.entry.text.now })
             (stage_of self.new.state.sessions self.new.state.names self.new.listener) kept.new) }
+        ensures bad { IfErr result (IsBad (FailsIn (play_of B.seat B.view B.stack D.again D.database_of D.entries L.hears)
+            (stage_of self.old.state.sessions self.old.state.names self.old.listener) kept.old
+            (record { number = line.entry.number; text = line.entry.text.now }))
+            (stage_of self.new.state.sessions self.new.state.names self.new.listener)) }
         ensures manager { D.manager self.new.state.desk ≡ D.manager self.old.state.desk }
     {
         match kept.session_before(line.text, &self.state.sessions) {
@@ -125,6 +134,8 @@ impl<T: PartTable, B: Board<T>, D: ScriptDesk<OwnSession<T, B>>, L: Listener> Sc
         ensures heard { OnOk result (L.hears self.old.listener (Kept line.entry.number line.entry.text.now) self.new.listener) }
         ensures kept { OnOk result (IsKeptFor session.bytes kept.old
             (record { number = line.entry.number; text = line.entry.text.now }) kept.new) }
+        ensures bad { IfErr result (IsBad (λ bad _ now. (bad ≡ record { number = line.entry.number; text = line.entry.text.now })
+            × L.hears self.old.listener (Kept line.entry.number line.entry.text.now) now) self.new.listener) }
         ensures state { self.new.state ≡ self.old.state }
         ensures manager { D.manager self.new.state.desk ≡ D.manager self.old.state.desk }
     {
@@ -147,6 +158,9 @@ impl<T: PartTable, B: Board<T>, D: ScriptDesk<OwnSession<T, B>>, L: Listener> Sc
         ensures ran { OnOk result (RunsKept (play_of B.seat B.view B.stack D.again D.database_of D.entries L.hears)
             (stage_of self.old.state.sessions self.old.state.names self.old.listener) kept.old
             (stage_of self.new.state.sessions self.new.state.names self.new.listener) kept.new) }
+        ensures bad { IfErr result (IsBad (FailsKept (play_of B.seat B.view B.stack D.again D.database_of D.entries L.hears)
+            (stage_of self.old.state.sessions self.old.state.names self.old.listener) kept.old)
+            (stage_of self.new.state.sessions self.new.state.names self.new.listener)) }
         ensures manager { D.manager self.new.state.desk ≡ D.manager self.old.state.desk }
     {
         'ready: while let Some((_, line)) = kept.take_ready(&self.state.sessions) {
@@ -159,6 +173,7 @@ impl<T: PartTable, B: Board<T>, D: ScriptDesk<OwnSession<T, B>>, L: Listener> Sc
     pub(crate) fn tell_left(&mut self, alloc: Global, kept: &KeptLines) -> Result<(), Fault>
         ensures heard { OnOk result (L.hears self.old.listener
             (Left (map (λ one. one.name) self.old.state.sessions.waiting) (min (kept_count kept.now) (2 ^ 64 - 1))) self.new.listener) }
+        ensures unheard { IfErr result IsUnheard }
         ensures manager { D.manager self.new.state.desk ≡ D.manager self.old.state.desk }
     {
         let state = &self.state;
@@ -178,7 +193,10 @@ fn kept_or_fault(
     line: ReadLine<'_>,
     defect: Result<Option<Defect>, AllocError>,
 ) -> Result<(), Fault>
-    ensures { OnOk result (IsKeptFor session.bytes kept.old (record { number = line.entry.number; text = line.entry.text.now }) kept.new) }
+    ensures kept { OnOk result (IsKeptFor session.bytes kept.old
+        (record { number = line.entry.number; text = line.entry.text.now }) kept.new) }
+    ensures bad { IfErr result (λ fault. (fault ≡ Fault.NoMemory)
+        ⊎ ((what : Defect) × (fault ≡ Fault.BadLine line.entry.number what))) }
 {
     let number = line.number;
     match defect {

@@ -1,5 +1,5 @@
 //! Runs of whole scripts, each against a lock manager of its own.
-ghost use Rattle.std.specs.Prelude.{◌≡◌, ◌||◌, IsTrue, OnOk, false};
+ghost use Rattle.std.specs.Prelude.{◌≡◌, ◌||◌, IsTrue, false};
 ghost use Rattle.scenario.specs.Acts.{IsKeptHeard, UnlessUnheard, WritesScript, no_cast};
 ghost use Rattle.scenario.specs.Scripts.{IsScriptHeard};
 ghost use Rattle.scenario.specs.Sizes.{IsForManager};
@@ -161,8 +161,8 @@ pub fn run_in_turn<H: AllocGlobal + Wait, R: Read + Drop, L: Listener>(
         result.1 result.0 }
     ensures heard_in_turn { let B = ⟦<SeatBoard<'static, Part> as Board<Part>>⟧ in
         let D = ⟦<ManagerDesk<'static> as Desk<Session<'static>>>⟧ in IsTrue (turns.keep || turns.sql) →
-        OnOk result.1 (IsKeptHeard B.seat B.view B.stack turns.reuse D.database_of D.entries L.hears turns.sql turns.keep
-        (R.remaining reader) no_cast listener result.0) }
+        IsKeptHeard B.seat B.view B.stack turns.reuse D.database_of D.entries L.hears turns.sql turns.keep (R.remaining reader)
+        no_cast listener result.1 result.0 }
 {
     let manner = turns.manner(rt.alloc());
     drive(rt, config, turns.reuse, listener, Script { reader, manner })

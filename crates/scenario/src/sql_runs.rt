@@ -1,9 +1,9 @@
 //! Runs of scripts that speak SQL: a schema makes tables, and a session plays what the statements of its `do`
 //! lines lock.
-ghost use Rattle.std.specs.Prelude.{◌≡◌, [], ◌∷◌, IfOk, None, OnOk, false, map, string_bytes};
+ghost use Rattle.std.specs.Prelude.{◌≡◌, [], ◌∷◌, IfErr, IfOk, IsOk, None, Ok, OnOk, false, map, string_bytes};
 ghost use Rattle.lock_manager.specs.Crews.{SeatsAre};
 ghost use Rattle.scenario.specs.Heard.{Done, Hears, HearsAll, Line};
-ghost use Rattle.scenario.specs.InTurn.{DoesLine, NamesTable, NamesTables, PlaysStatements, TakesInEach, lines_at, may_be_named, name_line, tables_in};
+ghost use Rattle.scenario.specs.InTurn.{DoesLine, FailsPlain, IsBad, NamesTable, NamesTables, PlaysStatements, TakesInEach, lines_at, may_be_named, name_line, tables_in};
 ghost use Rattle.scenario.specs.Scripts.{PlaysLine};
 ghost use Rattle.scenario.specs.Spoken.{IsHeardBy};
 ghost use Rattle.scenario.specs.Staged.{play_of, stage_of};
@@ -43,6 +43,7 @@ impl Spoken {
     /// What `line` says in SQL. In a script that doesn't speak SQL no line says any.
     pub fn hear(&mut self, line: ReadLine<'_>) -> Result<Heard, Unplayed>
         ensures heard { IfOk result (IsHeardBy self.old.script line.entry.text.now) }
+        ensures plain { self.old.script ≡ None → result ≡ Ok Heard.Plain }
         ensures silent { self.old.script ≡ None → self.new.script ≡ None }
     {
         match &mut self.script {
@@ -52,7 +53,9 @@ impl Spoken {
     }
 
     /// Ends the script. Refused where it ends within a schema.
-    pub fn finish(self) -> Result<(), Unplayed> {
+    pub fn finish(self) -> Result<(), Unplayed>
+        ensures { self.script ≡ None → IsOk result }
+    {
         match self.script {
             Some(script) => script.finish(),
             None => Ok(()),
@@ -76,6 +79,11 @@ impl<T: PartTable, B: Board<T>, D: ScriptDesk<OwnSession<T, B>>, L: Listener> Sc
             (stage_of self.old.state.sessions self.old.state.names self.old.listener) kept.old
             (record { number = line.entry.number; text = line.entry.text.now }) heard.now
             (stage_of self.new.state.sessions self.new.state.names self.new.listener) kept.new) }
+        ensures bad { heard.now ≡ Heard.Plain → IfErr result (IsBad (FailsPlain
+            (play_of B.seat B.view B.stack D.again D.database_of D.entries L.hears) keeping.keeps
+            (stage_of self.old.state.sessions self.old.state.names self.old.listener) kept.old
+            (record { number = line.entry.number; text = line.entry.text.now }))
+            (stage_of self.new.state.sessions self.new.state.names self.new.listener)) }
         ensures manager { D.manager self.new.state.desk ≡ D.manager self.old.state.desk }
     {
         match heard {
@@ -102,6 +110,11 @@ impl<T: PartTable, B: Board<T>, D: ScriptDesk<OwnSession<T, B>>, L: Listener> Sc
             (stage_of self.old.state.sessions self.old.state.names self.old.listener) kept.old
             (record { number = line.entry.number; text = line.entry.text.now }) Heard.Plain
             (stage_of self.new.state.sessions self.new.state.names self.new.listener) kept.new) }
+        ensures bad { IfErr result (IsBad (FailsPlain
+            (play_of B.seat B.view B.stack D.again D.database_of D.entries L.hears) keeping.keeps
+            (stage_of self.old.state.sessions self.old.state.names self.old.listener) kept.old
+            (record { number = line.entry.number; text = line.entry.text.now }))
+            (stage_of self.new.state.sessions self.new.state.names self.new.listener)) }
         ensures manager { D.manager self.new.state.desk ≡ D.manager self.old.state.desk }
     {
         if keeping.keeps {

@@ -1,4 +1,4 @@
-use Rattle.std.specs.Prelude.{◌≡◌, ◌⊎◌, ◌||◌, ℕ, Bool, MatchBool, true, false, List, Option, None, IsSomeAnd, OnOk, Result, Ok, Err}
+use Rattle.std.specs.Prelude.{◌≡◌, ◌⊎◌, ◌||◌, ℕ, Bool, MatchBool, true, false, List, Option, None, IsSomeAnd, Result, Ok, Err}
 use Rattle.std.specs.Io.Buffered.{writer_contents}
 use Rattle.std.specs.Io.KnownBytes.{Keeps}
 use Rattle.std.specs.declared.io.buffered.BufWriter.{BufWriter}
@@ -8,7 +8,7 @@ use Rattle.lock_script.specs.Fault.{status_of}
 use Rattle.lock_script.specs.declared.faults.Fault.{Fault}
 use Rattle.lock_script.specs.declared.faults.Fault.TheVariants.{WriteFailed}
 use Rattle.lock_world.specs.Account.{Account}
-use Rattle.scenario.specs.Acts.{UnlessUnheard, WritesKept, WritesScript}
+use Rattle.scenario.specs.Acts.{UnlessUnheard, WhereKnown, WritesKept, WritesScript}
 use Rattle.scenario.specs.Heard.{Heard}
 use Rattle.scenario.specs.Printed.{Prints}
 use Rattle.scenario_program.specs.declared.options.FailOn.{FailOn}
@@ -53,13 +53,13 @@ module _
       UnlessUnheard ended (IsSomeAnd output (λ writer.
       WritesScript seat view stack again database_of entries script options.style.json options.style.echo before ended (contents writer)))
 
-  -- The script was run from nothing to its end, where lines of it are kept or what its SQL comes to is, and
-  -- the text of all that was heard of it stands there.
+  -- The script was run from nothing, where lines of it are kept or what its SQL comes to is, and the text of
+  -- all that was heard of it stands there.
   abbrev pub PrintsKept : {W : Type 0} → (W → Option (List ℕ)) → Option (List ℕ) → RunOptions → Option (List ℕ) → Result (Unit {0}) Fault → Option W → Type 0
   PrintsKept contents script options before ended output =
-      OnOk ended (IsSomeAnd output (λ writer.
+      WhereKnown options.turns.sql ended (IsSomeAnd output (λ writer.
       WritesKept seat view stack again database_of entries options.turns.sql options.turns.keep script options.style.json options.style.echo before
-      (contents writer)))
+      ended (contents writer)))
 
   -- The script was run so, in the manner that is asked for.
   abbrev pub PrintsScript : {W : Type 0} → (W → Option (List ℕ)) → Option (List ℕ) → RunOptions → Option (List ℕ) → Result (Unit {0}) Fault → Option W → Type 0

@@ -1,4 +1,4 @@
-use Rattle.std.specs.Prelude.{◌≡◌, ◌⊎◌, ◌||◌, ℕ, ◌+◌, Bool, true, false, if◌then◌else◌, List, [], ◌∷◌, ◌++◌, codes, length, ⊤, Option, Some, None, IfSome, OnOk, Result, Ok, Err}
+use Rattle.std.specs.Prelude.{◌≡◌, ◌≢◌, ◌⊎◌, ◌||◌, ℕ, ◌+◌, Bool, true, false, if◌then◌else◌, List, [], ◌∷◌, ◌++◌, codes, length, ⊤, Option, Some, None, IfSome, Result, Ok, Err}
 use Rattle.std.specs.Str.{bytes_eq}
 use Rattle.local_locks.specs.declared.records.Entry.{Entry}
 use Rattle.lock_manager.specs.Sessions.{SessionView}
@@ -8,9 +8,10 @@ use Rattle.lock_script.specs.Meaning.{IsSilent, Means}
 use Rattle.lock_script.specs.declared.command.Command.{Command}
 use Rattle.lock_script.specs.declared.faults.Defect.TheVariants.{NotAsciiText}
 use Rattle.lock_script.specs.declared.faults.Fault.{Fault}
+use Rattle.lock_script.specs.declared.faults.Fault.TheVariants.{BadLine, ReadFailed, WriteFailed, NoMemory, GateHeld}
 use Rattle.lock_world.specs.Account.{Account}
 use Rattle.shared_rule.specs.Boards.{Seated, Stack}
-use Rattle.scenario.specs.Acts.{Writes, no_cast}
+use Rattle.scenario.specs.Acts.{UnlessUnheard, Writes, no_cast}
 use Rattle.scenario.specs.Answers.{Cast}
 use Rattle.scenario.specs.Heard.{Heard, Hears, Helped}
 use Rattle.scenario.specs.Played.{Plays}
@@ -76,6 +77,18 @@ EndsShell is_terminal typed number left heard =
     ((text : List ℕ) × IsReadNext typed number left (Some text) × Leaves (words_in text) × (heard ≡ at_terminal is_terminal prompt))
     ⊎ (IsReadNext typed number left None × (heard ≡ at_terminal is_terminal prompt ++ at_terminal is_terminal (codes "\n")))
 
+-- Why a shell ends after these lines, and what is heard then: by what comes after them; by a line that is too
+-- long, or one too many; or as the reader fails.
+abbrev pub EndsTyped : Bool → Option (List ℕ) → ℕ → Option (List ℕ) → Result (Unit {0}) Fault → List Heard → Type 0
+EndsTyped is_terminal typed number left (Ok ended) heard = EndsShell is_terminal typed number left heard
+EndsTyped is_terminal typed number left (Err (BadLine line what)) heard =
+    (what ≢ NotAsciiText) × (heard ≡ at_terminal is_terminal prompt)
+    × IfSome typed (λ _. IfSome left (λ unread. (line ≡ number + 1) × (reading_of number unread ≡ Err what)))
+EndsTyped is_terminal typed number left (Err ReadFailed) heard = (heard ≡ []) ⊎ (heard ≡ at_terminal is_terminal prompt)
+EndsTyped is_terminal typed number left (Err WriteFailed) heard = ⊤
+EndsTyped is_terminal typed number left (Err NoMemory) heard = ⊤
+EndsTyped is_terminal typed number left (Err GateHeld) heard = ⊤
+
 module _
     {B : Type 0} (seat : B → Seated) (view : B → Account) (stack : B → Stack) (again : Bool) (database_of : SessionView B → ℕ) (entries : SessionView B → List Entry) where
   -- A line is answered: by a text, where it is for the shell itself or means nothing, and nothing is done
@@ -101,7 +114,7 @@ module _
       × AnswersAll is_terminal next lines later new × (heard ≡ at_terminal is_terminal prompt ++ (here ++ later))
 
   -- What was typed was answered, to the end of the shell.
-  pub record PlaysTyped (is_terminal : Bool) (typed : Option (List ℕ)) (old : Cast B) (heard : List Heard) : Type 0 where
+  pub record PlaysTyped (is_terminal : Bool) (typed : Option (List ℕ)) (old : Cast B) (ended : Result (Unit {0}) Fault) (heard : List Heard) : Type 0 where
     pub lines : List (Option (List ℕ))
     pub left : Option (List ℕ)
     pub are : AreTyped typed lines left
@@ -109,14 +122,14 @@ module _
     pub new : Cast B
     pub answers : AnswersAll is_terminal old lines answered new
     pub last : List Heard
-    pub ends : EndsShell is_terminal typed (length lines) left last
+    pub ends : EndsTyped is_terminal typed (length lines) left ended last
     pub all : heard ≡ at_terminal is_terminal greeting ++ (answered ++ last)
 
-  -- What was typed was heard as it was answered, to the end of the shell.
+  -- What was typed was heard as it was answered, unless the listener failed.
   abbrev pub IsTypedHeard : {L : Type 0} → (L → Heard → L → Type 0) → Bool → Option (List ℕ) → Cast B → L → Result (Unit {0}) Fault → L → Type 0
   IsTypedHeard hears is_terminal typed old before ended now =
-      OnOk ended (Hears hears before now (PlaysTyped is_terminal typed old))
+      UnlessUnheard ended (Hears hears before now (PlaysTyped is_terminal typed old ended))
 
   -- What was typed was answered, from nothing, and what was heard of it is written.
-  abbrev pub WritesTyped : Bool → Option (List ℕ) → Option (List ℕ) → Option (List ℕ) → Type 0
-  WritesTyped is_terminal typed before after = Writes (PlaysTyped is_terminal typed no_cast) false false before after
+  abbrev pub WritesTyped : Bool → Option (List ℕ) → Option (List ℕ) → Result (Unit {0}) Fault → Option (List ℕ) → Type 0
+  WritesTyped is_terminal typed before ended after = Writes (PlaysTyped is_terminal typed no_cast ended) false false before after

@@ -1,6 +1,7 @@
 //! The program as a function of its words and its streams.
-ghost use Rattle.std.specs.Prelude.{◌≡◌, ◌≤◌, IfOk, IsSomeAnd, None, OnOk, false};
+ghost use Rattle.std.specs.Prelude.{◌≡◌, ◌≤◌, IfOk, IsSomeAnd, None, false};
 ghost use Rattle.lock_hammer.specs.Sizes.{IsPlayable};
+ghost use Rattle.scenario.specs.Acts.{UnlessUnheard};
 ghost use Rattle.scenario.specs.Sizes.{IsForManager};
 ghost use Rattle.scenario_program.specs.Runs.{ArePassedOn, IsStatusOf, PrintsScript, RunsScript, ShowsAnswers};
 ghost use Rattle.scenario_program.specs.Typed.{WritesTyped};
@@ -332,8 +333,8 @@ fn run_typed<H: AllocGlobal + Wait, R: Read + Drop, W: Write + Drop>(
     requires { IsForManager config }
     ensures typed { let B = ⟦<SeatBoard<'static, Part> as Board<Part>>⟧ in
         let D = ⟦<ManagerDesk<'static> as Desk<Session<'static>>>⟧ in
-        OnOk result.1 (IsSomeAnd result.0 (λ writer. WritesTyped B.seat B.view B.stack reuse D.database_of D.entries
-        input.is_terminal (R.remaining input.reader) (W.contents output) (W.contents writer))) }
+        UnlessUnheard result.1 (IsSomeAnd result.0 (λ writer. WritesTyped B.seat B.view B.stack reuse D.database_of D.entries
+        input.is_terminal (R.remaining input.reader) (W.contents output) result.1 (W.contents writer))) }
 {
     let Ok(buffered) = BufWriter::new(rt.alloc(), output) else {
         return (None, Err(Fault::NoMemory));

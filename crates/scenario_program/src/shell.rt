@@ -1,7 +1,8 @@
 //! A shell: the lines of a script as somebody types them, with help, and with what is wrong with a bad one.
-ghost use Rattle.std.specs.Prelude.{◌≡◌, ℕ, List, IfOk, OnOk, Ok, false, true};
+ghost use Rattle.std.specs.Prelude.{◌≡◌, ◌≢◌, ◌⊎◌, ℕ, List, IfErr, IfOk, OnOk, Ok, false, true};
 ghost use Rattle.lock_manager.specs.Crews.{SeatsAre};
-ghost use Rattle.scenario.specs.Heard.{Hears, HearsAll, Helped};
+ghost use Rattle.scenario.specs.Acts.{UnlessUnheard};
+ghost use Rattle.scenario.specs.Heard.{Hears, HearsAll, Helped, IsUnheard};
 ghost use Rattle.scenario.specs.Scripts.{words_in};
 ghost use Rattle.scenario.specs.Sizes.{IsForManager};
 ghost use Rattle.scenario_program.specs.Typed.{AnswersLine, AsksFor, IsTypedHeard, Leaves, WritesTyped, at_terminal};
@@ -121,8 +122,8 @@ pub fn run_shell<H: AllocGlobal + Wait, R: Read + Drop, W: Write + Drop>(
     requires { IsForManager config }
     ensures written { let B = ⟦<SeatBoard<'static, Part> as Board<Part>>⟧ in
         let D = ⟦<ManagerDesk<'static> as Desk<Session<'static>>>⟧ in
-        OnOk result.1 (WritesTyped B.seat B.view B.stack options.reuse D.database_of D.entries options.is_terminal
-        (R.remaining reader) (W.contents writer) (W.contents result.0)) }
+        UnlessUnheard result.1 (WritesTyped B.seat B.view B.stack options.reuse D.database_of D.entries options.is_terminal
+        (R.remaining reader) (W.contents writer) result.1 (W.contents result.0)) }
 {
     let shell = Shell {
         alloc: rt.alloc(),
@@ -194,7 +195,8 @@ fn converse<
 
 /// Has `listener` print `text` at the terminal of `shell`, if it has one.
 fn prompt<L: Listener>(listener: &mut L, shell: Shell, text: &'static str) -> Result<(), Fault>
-    ensures { OnOk result (HearsAll L.hears listener.old (at_terminal shell.is_terminal text.now) listener.new) }
+    ensures prompted { OnOk result (HearsAll L.hears listener.old (at_terminal shell.is_terminal text.now) listener.new) }
+    ensures unheard { IfErr result IsUnheard }
 {
     if shell.is_terminal {
         listener.tell(text)
@@ -208,6 +210,8 @@ fn prompt<L: Listener>(listener: &mut L, shell: Shell, text: &'static str) -> Re
 fn pass_over<L: Listener>(listener: &mut L, fault: Fault) -> Result<(), Fault>
     ensures passed { OnOk result ((line : ℕ) × (fault ≡ Fault.BadLine line Defect.NotAsciiText)) }
     ensures told { OnOk result ((text : List ℕ) × L.hears listener.old (Helped text) listener.new) }
+    ensures ended { IfErr result (λ it. IsUnheard it ⊎ ((it ≡ fault) × (listener.new ≡ listener.old)
+        × ((line : ℕ) → fault ≢ Fault.BadLine line Defect.NotAsciiText))) }
 {
     match fault {
         Fault::BadLine {
@@ -231,6 +235,7 @@ fn answer<T: PartTable, B: Board<T>, D: ScriptDesk<OwnSession<T, B>>, L: Listene
         (record { sessions = scene.old.state.sessions; names = scene.old.state.names }) line.now heard
         (record { sessions = scene.new.state.sessions; names = scene.new.state.names })) }
     ensures leaves { result ≡ Ok true → Leaves (words_in line.now) × (scene.new.listener ≡ scene.old.listener) }
+    ensures unheard { IfErr result IsUnheard }
     ensures manager { D.manager scene.new.state.desk ≡ D.manager scene.old.state.desk }
 {
     match shell.understand(line) {
@@ -259,6 +264,7 @@ fn answer_line<T: PartTable, B: Board<T>, D: ScriptDesk<OwnSession<T, B>>, L: Li
         AnswersLine B.seat B.view B.stack D.again D.database_of D.entries
         (record { sessions = scene.old.state.sessions; names = scene.old.state.names }) line.now heard
         (record { sessions = scene.new.state.sessions; names = scene.new.state.names }))) }
+    ensures unheard { IfErr result IsUnheard }
     ensures manager { D.manager scene.new.state.desk ≡ D.manager scene.old.state.desk }
 {
     let state = &scene.state;

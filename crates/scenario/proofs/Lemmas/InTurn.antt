@@ -14,7 +14,7 @@ use Rattle.lock_script.specs.Names.{IsFree}
 use Rattle.sql_script.specs.declared.turns.Table.{Table}
 use Rattle.sql_script.specs.declared.turns.Turn.{Turn}
 use Rattle.sql_script.specs.declared.lines.Heard.{Heard}
-use Rattle.scenario.specs.InTurn.{DoesLine, DoesLines, DoesScript, IsKeptFor, IsNext, NamesTable, NamesTables, Play, RunsEach, RunsKept, TakesIn, TakesInEach, kept_of, lines_at, one_of, said_by, tables_in}
+use Rattle.scenario.specs.InTurn.{DoesLine, DoesLines, IsKeptFor, IsNext, NamesTable, NamesTables, Play, RunsEach, RunsKept, TakesIn, TakesInEach, kept_of, lines_at, one_of, said_by, tables_in}
 use Rattle.scenario.specs.Scripts.{AreFirstLines, ScriptLine}
 use Rattle.scenario.specs.Spoken.{IsSaid}
 use Rattle.scenario.proofs.Lemmas.Lines.{first-next, first-none, moved}
@@ -218,15 +218,3 @@ module _ {C W : Type 0} (play : Play C W) where
         does = does-more speaks keeps 1 first old new [] kept left so_far.texts text said so_far.does says
             (subst (λ (n : ℕ). DoesLine play keeps old kept (record { number = n; text = text }) said new left) one does);
       }
-
-  pub done-all :
-      (speaks keeps : Bool) (script : Option (List ℕ)) (first new : C) (number : ℕ) (unread : Option (List ℕ)) (left : List KeptQueue) →
-      HaveDone speaks keeps script first number unread new left → IfSome unread (λ bytes. reading_of number bytes ≡ Ok None) →
-      DoesScript play speaks keeps script first new left
-  done-all speaks keeps script first new number unread left so_far reads = record {
-    texts = so_far.texts;
-    unread = unread;
-    lines = so_far.lines;
-    all = subst (λ (n : ℕ). IfSome unread (λ bytes. reading_of n bytes ≡ Ok None)) so_far.count reads;
-    does = so_far.does;
-  }

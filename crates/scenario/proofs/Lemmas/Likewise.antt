@@ -2,6 +2,7 @@
 use Rattle.std.proofs.Common.{◌≡◌, ℕ, ◌+◌, Bool, true, false, List, [], ◌∷◌, ap, refl, sym, subst, inl, inr, Option}
 use Rattle.std.specs.Prelude.{MatchBool, string_bytes}
 use Rattle.lock_script.specs.Kept.{HasToWait, NoneReady}
+use Rattle.lock_script.specs.declared.faults.Defect.{Defect}
 use Rattle.lock_script.specs.declared.kept.KeptQueue.{KeptQueue}
 use Rattle.sql_script.specs.Steps.{line_text, steps_in}
 use Rattle.sql_script.specs.declared.lines.Heard.{Heard}
@@ -9,7 +10,7 @@ use Rattle.sql_script.specs.declared.lines.Heard.TheVariants.{Plain, Schema, Sta
 use Rattle.sql_script.specs.declared.turns.Table.{Table}
 use Rattle.sql_script.specs.declared.turns.Turn.{Turn}
 use Rattle.std.specs.Prelude.{map}
-use Rattle.scenario.specs.InTurn.{DoesLine, DoesLines, DoesScript, IsNext, NamesTable, NamesTables, Play, PlaysStatements, RunsEach, RunsKept, RunsNow, TakesIn, TakesInEach, lines_at, may_be_named, name_line, tables_in}
+use Rattle.scenario.specs.InTurn.{DoesLine, DoesLines, FailsIn, FailsKept, FailsNow, FailsPlain, IsNext, NamesTable, NamesTables, Play, PlaysStatements, RunsEach, RunsKept, RunsNow, TakesIn, TakesInEach, lines_at, may_be_named, name_line, tables_in}
 use Rattle.scenario.specs.Scripts.{ScriptLine}
 
 module _
@@ -17,6 +18,7 @@ module _
     (runs : (c next : C) (d : D) (line : ScriptLine) → Like c d → one.Runs c line next → (e : D) × Like next e × other.Runs d line e)
     (keeps : (c next : C) (d : D) (line : ScriptLine) → Like c d → one.Keeps c line next → (e : D) × Like next e × other.Keeps d line e)
     (shows : (c next : C) (d : D) (line : ScriptLine) → Like c d → one.Shows c line next → (e : D) × Like next e × other.Shows d line e)
+    (fails : (c next : C) (d : D) (line : ScriptLine) (what : Defect) → Like c d → one.Fails c line what next → (e : D) × Like next e × other.Fails d line what e)
     (waits : (c : C) (d : D) → Like c d → one.waiting c ≡ other.waiting d)
     (calls : (c : C) (d : D) → Like c d → one.objects c ≡ other.objects d) where
   each :
@@ -102,7 +104,7 @@ module _
       let later = statements mid new kept left line.number (string_bytes said.session) said.turns.items here.0 here.1 played in
       (later.0, later.1, (here.0, here.2, later.2))
 
-  does-all :
+  pub does-all :
       (speaks keeping : Bool) (texts : List (List ℕ)) (number : ℕ) (old new : C) (kept left : List KeptQueue) (d : D) → Like old d →
       DoesLines one speaks keeping number old kept texts new left → (e : D) × Like new e × DoesLines other speaks keeping number d kept texts e left
   does-all speaks keeping [] number old new kept left d is (same, all) = (d, subst (λ c. Like c d) (sym same) is, (refl, all))
@@ -111,9 +113,47 @@ module _
       let later = does-all speaks keeping texts (number + 1) next new some left here.0 here.1 rest in
       (later.0, later.1, (said, here.0, some, its, here.2, later.2))
 
-  pub script-likewise :
-      (speaks keeping : Bool) (script : Option (List ℕ)) (old new : C) (left : List KeptQueue) (d : D) → Like old d →
-      DoesScript one speaks keeping script old new left → (e : D) × Like new e × DoesScript other speaks keeping script d e left
-  script-likewise speaks keeping script old new left d is it =
-      let all = does-all speaks keeping it.texts 1 old new [] left d is it.does in
-      (all.0, all.1, record { texts = it.texts; unread = it.unread; lines = it.lines; all = it.all; does = all.2 })
+  fails-kept :
+      (old new : C) (kept : List KeptQueue) (bad : ScriptLine) (what : Defect) (d : D) → Like old d → FailsKept one old kept bad what new →
+      (e : D) × Like new e × FailsKept other d kept bad what e
+  fails-kept old new kept bad what d is it =
+      let all = each it.lines old it.mid kept it.some d is it.runs in
+      let last = fails it.mid new all.0 bad what all.1 it.fails in (
+        last.0,
+        last.1,
+        record {
+          lines = it.lines;
+          mid = all.0;
+          some = it.some;
+          runs = all.2;
+          name = it.name;
+          left = it.left;
+          next = subst (λ those. IsNext those it.some it.name bad it.left) (waits it.mid all.0 all.1) it.next;
+          fails = last.2;
+        },
+      )
+
+  fails-now :
+      (old new : C) (kept : List KeptQueue) (line bad : ScriptLine) (what : Defect) (d : D) → Like old d → FailsNow one old kept line bad what new →
+      (e : D) × Like new e × FailsNow other d kept line bad what e
+  fails-now old new kept line bad what d is (inl (same, bad-it)) =
+      let here = fails old new d line what is bad-it in (here.0, here.1, inl (same, here.2))
+  fails-now old new kept line bad what d is (inr (next, ran, rest)) =
+      let here = runs old next d line is ran in
+      let later = fails-kept next new kept bad what here.0 here.1 rest in (later.0, later.1, inr (here.0, here.2, later.2))
+
+  fails-in :
+      (old new : C) (kept : List KeptQueue) (line bad : ScriptLine) (what : Defect) (d : D) → Like old d → FailsIn one old kept line bad what new →
+      (e : D) × Like new e × FailsIn other d kept line bad what e
+  fails-in old new kept line bad what d is (inl (name, has, same, keeps-it)) =
+      let here = keeps old new d line is keeps-it in
+      (here.0, here.1, inl (name, subst (λ those. HasToWait kept those line.text name) (waits old d is) has, same, here.2))
+  fails-in old new kept line bad what d is (inr (never, failed)) =
+      let here = fails-now old new kept line bad what d is failed in
+      (here.0, here.1, inr (λ name has. never name (subst (λ those. HasToWait kept those line.text name) (sym (waits old d is)) has), here.2))
+
+  pub fails-likewise :
+      (keeping : Bool) (old new : C) (kept : List KeptQueue) (line bad : ScriptLine) (what : Defect) (d : D) → Like old d →
+      FailsPlain one keeping old kept line bad what new → (e : D) × Like new e × FailsPlain other keeping d kept line bad what e
+  fails-likewise true old new kept line bad what d is it = fails-in old new kept line bad what d is it
+  fails-likewise false old new kept line bad what d is it = fails-now old new kept line bad what d is it

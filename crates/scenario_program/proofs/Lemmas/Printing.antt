@@ -1,6 +1,6 @@
 -- What a witness passes on of a script is printed, and leaves the buffer.
 use Rattle.std.proofs.Common.{◌≡◌, ◌∙◌, ℕ, List, [], ◌∷◌, ap, append-nil, refl, subst, sym, None, Some, IfSome, inl, inr}
-use Rattle.std.specs.Prelude.{◌||◌, Bool, true, false, IsTrue, MatchBool, OnOk, Option, Result, Ok, Err, IsSomeAnd}
+use Rattle.std.specs.Prelude.{◌||◌, Bool, true, false, IsTrue, MatchBool, Option, Result, Ok, Err, IsSomeAnd}
 use Rattle.std.specs.Io.Buffered.{writer_buffer, writer_contents, writer_inner}
 use Rattle.std.specs.Io.KnownBytes.{Appends, Keeps, append_known}
 use Rattle.std.specs.declared.io.buffered.BufWriter.{BufWriter}
@@ -11,13 +11,12 @@ use Rattle.lock_script.specs.declared.faults.Fault.{Fault}
 use Rattle.lock_script.specs.declared.faults.Fault.TheVariants.{BadLine, ReadFailed, WriteFailed, NoMemory, GateHeld}
 use Rattle.lock_world.specs.Account.{Account}
 use Rattle.shared_rule.specs.Boards.{Seated, Stack}
-use Rattle.scenario.specs.Acts.{IsKeptHeard, Writes, no_cast}
+use Rattle.scenario.specs.Acts.{IsKeptHeard, UnlessUnheard, WhereKnown, Writes, no_cast}
 use Rattle.scenario.specs.Heard.{Heard, Hears, HearsAll}
 use Rattle.scenario.specs.Printed.{IsFormOf, Prints}
 use Rattle.scenario.specs.Scripts.{IsScriptHeard, PlaysScript}
 use Rattle.scenario.specs.Staged.{PlaysKept}
 use Rattle.scenario.specs.Written.{text_of_all}
-use Rattle.scenario.proofs.Lemmas.InTurn.{on-ok}
 use Rattle.scenario.proofs.Lemmas.Printing.{heard-written}
 use Rattle.scenario_program.specs.Runs.{ArePassedOn, PassesOn, PrintsAll, PrintsKept, PrintsScript}
 use Rattle.scenario_program.specs.declared.options.RunOptions.{RunOptions}
@@ -41,6 +40,19 @@ begins-empty {W} {A} contents writer buffered output same inner empty =
     ap (λ (it : BufWriter W A). writer_contents contents it) same
     ∙ (ap (λ (it : List ℕ). append_known (contents (writer_inner buffered)) it) empty
     ∙ (append-nothing (contents (writer_inner buffered)) ∙ ap (λ (it : W). contents it) inner))
+
+-- What follows, follows of a run whose listener didn't fail.
+pub unless-so : {P Q : Type 0} (ended : Result (Unit {0}) Fault) → (P → Q) → UnlessUnheard ended P → UnlessUnheard ended Q
+unless-so (Ok done) so p = so p
+unless-so (Err (BadLine line what)) so p = so p
+unless-so (Err ReadFailed) so p = so p
+unless-so (Err WriteFailed) so p = tt
+unless-so (Err NoMemory) so p = tt
+unless-so (Err GateHeld) so p = tt
+
+known-so : {P Q : Type 0} (speaks : Bool) (ended : Result (Unit {0}) Fault) → (P → Q) → WhereKnown speaks ended P → WhereKnown speaks ended Q
+known-so speaks (Ok done) so p = so p
+known-so speaks (Err fault) so p = λ silent. unless-so (Err fault) so (p silent)
 
 -- What stands where a line is kept, and where none is, stands in both cases.
 by-manner :
@@ -106,16 +118,16 @@ module _
       (ended : Result (Unit {0}) Fault) →
       (options.turns.keep ≡ false → options.turns.sql ≡ false →
       IsScriptHeard seat view stack again database_of entries (PassesOn (writer_contents contents)) script no_cast old ended new) →
-      (IsTrue (options.turns.keep || options.turns.sql) → OnOk ended
-      (IsKeptHeard seat view stack again database_of entries (PassesOn (writer_contents contents)) options.turns.sql options.turns.keep script no_cast old new)) →
+      (IsTrue (options.turns.keep || options.turns.sql) →
+      IsKeptHeard seat view stack again database_of entries (PassesOn (writer_contents contents)) options.turns.sql options.turns.keep script no_cast old ended new) →
       PrintsScript seat view stack again database_of entries contents script options (writer_contents contents old.output.writer) ended output
   in-manner ended heard in-turn =
       by-manner options.turns.keep options.turns.sql
       (PrintsKept seat view stack again database_of entries contents script options (writer_contents contents old.output.writer) ended output)
       (PrintsAll seat view stack again database_of entries contents script options (writer_contents contents old.output.writer) ended output)
       (λ no-keep no-sql. all-printed ended (heard no-keep no-sql))
-      (λ keeps. on-ok ended
-      (heard-printed (PlaysKept seat view stack again database_of entries options.turns.sql options.turns.keep script no_cast)) (in-turn keeps))
+      (λ keeps. known-so options.turns.sql ended
+      (heard-printed (PlaysKept seat view stack again database_of entries options.turns.sql options.turns.keep script no_cast ended)) (in-turn keeps))
 
 module _
     {B W : Type 0} (seat : B → Seated) (view : B → Account) (stack : B → Stack) (again : Bool) (database_of : SessionView B → ℕ) (entries : SessionView B → List Entry)
@@ -126,7 +138,7 @@ module _
       PrintsScript seat view stack again database_of entries contents script options before (Err WriteFailed) output
   none-written script options before output = by-manner options.turns.keep options.turns.sql
       (PrintsKept seat view stack again database_of entries contents script options before (Err WriteFailed) output)
-      (PrintsAll seat view stack again database_of entries contents script options before (Err WriteFailed) output) (λ _ _. tt) (λ _. tt)
+      (PrintsAll seat view stack again database_of entries contents script options before (Err WriteFailed) output) (λ _ _. tt) (λ _ _. tt)
 
   -- What a witness at a buffer heard of a script stands in the writer behind the buffer, unless that failed.
   pub script-printed :
@@ -135,8 +147,8 @@ module _
       old.output.is_echoing ≡ options.style.echo → old.output.line ≡ 0 → writer_contents contents old.output.writer ≡ before →
       (options.turns.keep ≡ false → options.turns.sql ≡ false →
       IsScriptHeard seat view stack again database_of entries (PassesOn (writer_contents contents)) script no_cast old ended new) →
-      (IsTrue (options.turns.keep || options.turns.sql) → OnOk ended
-      (IsKeptHeard seat view stack again database_of entries (PassesOn (writer_contents contents)) options.turns.sql options.turns.keep script no_cast old new)) →
+      (IsTrue (options.turns.keep || options.turns.sql) →
+      IsKeptHeard seat view stack again database_of entries (PassesOn (writer_contents contents)) options.turns.sql options.turns.keep script no_cast old ended new) →
       ArePassedOn contents new.output.writer ended output last →
       PrintsScript seat view stack again database_of entries contents script options before last output
   script-printed script options before old new ended last output plain is_form echo line begins heard in-turn (inr failed) =

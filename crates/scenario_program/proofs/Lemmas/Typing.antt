@@ -1,6 +1,6 @@
 -- Lines that were typed and answered so far, and where they end.
 use Rattle.std.proofs.Common.{◌≡◌, ◌∙◌, ℕ, ◌+◌, suc, List, [], ◌∷◌, ◌++◌, add-zero, ap, append-nil, append_assoc, arith, length, length-append, refl, subst, sym, None, Some, Option, IfSome, inl, inr}
-use Rattle.std.specs.Prelude.{◌⊎◌, Bool, false, IsSomeAnd, OnOk, Result, Ok, Err}
+use Rattle.std.specs.Prelude.{◌≢◌, ◌⊎◌, Bool, false, IfErr, IsSomeAnd, OnOk, Result, Ok, Err}
 use Rattle.std.specs.Io.Buffered.{writer_contents}
 use Rattle.std.specs.declared.io.buffered.BufWriter.{BufWriter}
 use Rattle.local_locks.specs.declared.records.Entry.{Entry}
@@ -9,22 +9,22 @@ use Rattle.lock_script.specs.Lines.{Reads, after_line, reading_of}
 use Rattle.lock_script.specs.declared.faults.Defect.{Defect}
 use Rattle.lock_script.specs.declared.faults.Defect.TheVariants.{NotAsciiText}
 use Rattle.lock_script.specs.declared.faults.Fault.{Fault}
-use Rattle.lock_script.specs.declared.faults.Fault.TheVariants.{BadLine, NoMemory}
+use Rattle.lock_script.specs.declared.faults.Fault.TheVariants.{BadLine, ReadFailed, WriteFailed, NoMemory, GateHeld}
 use Rattle.lock_world.specs.Account.{Account}
 use Rattle.shared_rule.specs.Boards.{Seated, Stack}
-use Rattle.scenario.specs.Acts.{Writes}
+use Rattle.scenario.specs.Acts.{UnlessUnheard, Writes}
 use Rattle.scenario.specs.Answers.{Cast}
-use Rattle.scenario.specs.Heard.{Heard, Hears, HearsAll, Helped}
+use Rattle.scenario.specs.Heard.{Heard, Hears, HearsAll, Helped, IsUnheard}
 use Rattle.scenario.specs.Printed.{IsFormOf, Prints}
 use Rattle.scenario.specs.declared.output.Output.{Output}
 use Rattle.scenario.specs.declared.style.Form.{Form}
 use Rattle.scenario.specs.declared.style.Form.TheVariants.{Text}
+use Rattle.scenario.proofs.Lemmas.Failing.{unless-unheard}
 use Rattle.scenario.proofs.Lemmas.Hearing.{hears-append}
-use Rattle.scenario.proofs.Lemmas.InTurn.{on-ok}
 use Rattle.scenario.proofs.Lemmas.Printing.{heard-written}
 use Rattle.scenario_program.specs.Runs.{ArePassedOn}
-use Rattle.scenario_program.specs.Typed.{AnswersAll, AnswersLine, AnswersTyped, AreNextTyped, AreTyped, EndsShell, IsReadNext, PlaysTyped, at_terminal, greeting, prompt}
-use Rattle.scenario_program.proofs.Lemmas.Printing.{kept-written}
+use Rattle.scenario_program.specs.Typed.{AnswersAll, AnswersLine, AnswersTyped, AreNextTyped, AreTyped, EndsTyped, IsReadNext, IsTypedHeard, PlaysTyped, at_terminal, greeting, prompt}
+use Rattle.scenario_program.proofs.Lemmas.Printing.{kept-written, unless-so}
 
 -- What is read next, where this number of lines was read: a text, or none where it isn't text.
 abbrev pub IsNextTyped : ℕ → Option (List ℕ) → Option (List ℕ) → Type 0
@@ -103,11 +103,19 @@ read-next None number lines unread line count reads = tt
 read-next (Some typed) number lines unread line count reads = subst (λ (n : ℕ). IfSome unread (λ bytes. reading_of n bytes ≡ Ok line)) count reads
 
 ends-after :
-    (is_terminal : Bool) (typed : Option (List ℕ)) (number : ℕ) (lines : List (Option (List ℕ))) (unread : Option (List ℕ)) (last : List Heard) →
-    Known typed (number ≡ length lines) → EndsShell is_terminal typed number unread last → EndsShell is_terminal typed (length lines) unread last
-ends-after is_terminal typed number lines unread last count (inl (text, reads, leaves, is)) =
+    (is_terminal : Bool) (typed : Option (List ℕ)) (number : ℕ) (lines : List (Option (List ℕ))) (unread : Option (List ℕ))
+    (ended : Result (Unit {0}) Fault) (last : List Heard) → Known typed (number ≡ length lines) → EndsTyped is_terminal typed number unread ended last →
+    EndsTyped is_terminal typed (length lines) unread ended last
+ends-after is_terminal typed number lines unread (Ok done) last count (inl (text, reads, leaves, is)) =
     inl (text, read-next typed number lines unread (Some text) count reads, leaves, is)
-ends-after is_terminal typed number lines unread last count (inr (reads, is)) = inr (read-next typed number lines unread None count reads, is)
+ends-after is_terminal typed number lines unread (Ok done) last count (inr (reads, is)) = inr (read-next typed number lines unread None count reads, is)
+ends-after is_terminal None number lines unread (Err (BadLine line what)) last count (not, is, bad) = (not, is, tt)
+ends-after is_terminal (Some typed) number lines unread (Err (BadLine line what)) last count (not, is, bad) =
+    (not, is, subst (λ (n : ℕ). IfSome unread (λ bytes. (line ≡ n + 1) × (reading_of n bytes ≡ Err what))) count bad)
+ends-after is_terminal typed number lines unread (Err ReadFailed) last count ends = ends
+ends-after is_terminal typed number lines unread (Err WriteFailed) last count ends = tt
+ends-after is_terminal typed number lines unread (Err NoMemory) last count ends = tt
+ends-after is_terminal typed number lines unread (Err GateHeld) last count ends = tt
 
 -- A line that isn't text was read to its end, and counted.
 pub record IsPassedOver (typed : Option (List ℕ)) (number number' : ℕ) (unread unread' : Option (List ℕ)) : Type 0 where
@@ -199,10 +207,10 @@ module _
 
   -- The shell has ended.
   pub typed-all :
-      (number : ℕ) (unread : Option (List ℕ)) (new : Cast B) (here now : L) (last : List Heard) → HaveTyped number unread new here →
-      EndsShell is_terminal typed number unread last → HearsAll hears here last now →
-      Hears hears before now (PlaysTyped seat view stack again database_of entries is_terminal typed old)
-  typed-all number unread new here now last so_far ends heard = (
+      (number : ℕ) (unread : Option (List ℕ)) (new : Cast B) (here now : L) (ended : Result (Unit {0}) Fault) (last : List Heard) → HaveTyped number unread new here →
+      EndsTyped is_terminal typed number unread ended last → HearsAll hears here last now →
+      Hears hears before now (PlaysTyped seat view stack again database_of entries is_terminal typed old ended)
+  typed-all number unread new here now ended last so_far ends heard = (
     at_terminal is_terminal greeting ++ (so_far.answered ++ last),
     record {
       lines = so_far.lines;
@@ -212,36 +220,69 @@ module _
       new = new;
       answers = so_far.answers;
       last = last;
-      ends = ends-after is_terminal typed number so_far.lines unread last so_far.count ends;
+      ends = ends-after is_terminal typed number so_far.lines unread ended last so_far.count ends;
       all = refl;
     },
     subst (λ (it : List Heard). HearsAll hears before it now) (append_assoc (at_terminal is_terminal greeting) so_far.answered last)
         (hears-append hears before here now (at_terminal is_terminal greeting ++ so_far.answered) last so_far.heard heard),
   )
 
+  -- The shell ends as the listener prompts, or the listener fails.
+  pub typed-prompted :
+      (number : ℕ) (unread : Option (List ℕ)) (new : Cast B) (here mid now : L) (told : Result (Unit {0}) Fault) (first last : List Heard) →
+      HaveTyped number unread new here → ((done : Unit {0}) → EndsTyped is_terminal typed number unread (Ok done) (first ++ last)) → HearsAll hears here first mid →
+      OnOk told (HearsAll hears mid last now) → IfErr told IsUnheard → IsTypedHeard seat view stack again database_of entries hears is_terminal typed old before told now
+  typed-prompted number unread new here mid now (Ok done) first last so_far ends prompted ended unheard =
+      typed-all number unread new here now (Ok done) (first ++ last) so_far (ends done) (hears-append hears here mid now first last prompted ended)
+  typed-prompted number unread new here mid now (Err fault) first last so_far ends prompted ended unheard = unless-unheard fault unheard
+
+  -- The shell ends by a line that wasn't read.
+  pub typed-unread :
+      (number : ℕ) (unread : Option (List ℕ)) (new : Cast B) (here mid now : L) (read : Result (Option (List ℕ)) Fault) (fault last : Fault) → HaveTyped number unread new here →
+      HearsAll hears here (at_terminal is_terminal prompt) mid → read ≡ Err fault → IfSome unread (λ bytes. Reads read number (reading_of number bytes)) →
+      IsUnheard last ⊎ ((last ≡ fault) × (now ≡ mid) × ((line : ℕ) → fault ≢ BadLine line NotAsciiText)) →
+      IsTypedHeard seat view stack again database_of entries hears is_terminal typed old before (Err last) now
+  typed-unread number unread new here mid now read fault last so_far prompted is reads (inl unheard) = unless-unheard last unheard
+  typed-unread number unread new here mid now read fault last so_far prompted is reads (inr (same, stays, other)) =
+      subst (λ (it : Fault). IsTypedHeard seat view stack again database_of entries hears is_terminal typed old before (Err it) now) (sym same)
+      (subst (λ (it : L). IsTypedHeard seat view stack again database_of entries hears is_terminal typed old before (Err fault) it) (sym stays)
+      (go fault (subst (λ (it : Result (Option (List ℕ)) Fault). IfSome unread (λ bytes. Reads it number (reading_of number bytes))) is reads) other)) where
+        go :
+            (it : Fault) → IfSome unread (λ bytes. Reads (Err it) number (reading_of number bytes)) → ((line : ℕ) → it ≢ BadLine line NotAsciiText) →
+            IsTypedHeard seat view stack again database_of entries hears is_terminal typed old before (Err it) mid
+        go (BadLine line what) bad other =
+            typed-all number unread new here mid (Err (BadLine line what)) (at_terminal is_terminal prompt) so_far
+            ((λ same. other line (ap (λ it. BadLine line it) same)), refl, known typed bad) prompted
+        go ReadFailed bad other =
+            typed-all number unread new here mid (Err ReadFailed) (at_terminal is_terminal prompt) so_far (inr refl) prompted
+        go WriteFailed bad other = tt
+        go NoMemory bad other = tt
+        go GateHeld bad other = tt
+
 -- What an output heard in a shell it has written.
 pub shell-written :
     {W : Type 0} (contents : W → Option (List ℕ)) (IsSo : List Heard → Type 0) (writer now : W) (old new : Output W) (ended : Result (Unit {0}) Fault) →
     old.writer ≡ writer → now ≡ new.writer → old.form ≡ Text → old.is_echoing ≡ false → old.line ≡ 0 →
-    (ended ≡ Err NoMemory) ⊎ OnOk ended (Hears (Prints contents) old new IsSo) → OnOk ended (Writes IsSo false false (contents writer) (contents now))
+    (ended ≡ Err NoMemory) ⊎ UnlessUnheard ended (Hears (Prints contents) old new IsSo) →
+    UnlessUnheard ended (Writes IsSo false false (contents writer) (contents now))
 shell-written contents IsSo writer now old new ended was is form echo line (inl failed) =
-    subst (λ (it : Result (Unit {0}) Fault). OnOk it (Writes IsSo false false (contents writer) (contents now))) (sym failed) tt
+    subst (λ (it : Result (Unit {0}) Fault). UnlessUnheard it (Writes IsSo false false (contents writer) (contents now))) (sym failed) tt
 shell-written {W} contents IsSo writer now old new ended was is form echo line (inr heard) =
-    on-ok ended
+    unless-so ended
     (λ hears. subst (λ (it : W). Writes IsSo false false (contents it) (contents now)) was
     (subst (λ (it : W). Writes IsSo false false (contents old.writer) (contents it)) (sym is)
     (heard-written contents IsSo false false old new (subst (λ (it : Form). IsFormOf false it) (sym form) tt) echo line hears))) heard
 
 -- What was written to a buffer stands in the writer behind it, unless that failed.
 pub typed-printed :
-    {W A : Type 0} (contents : W → Option (List ℕ)) (IsSo : List Heard → Type 0) (before : Option (List ℕ)) (buffered now : BufWriter W A)
+    {W A : Type 0} (contents : W → Option (List ℕ)) (IsSo : Result (Unit {0}) Fault → List Heard → Type 0) (before : Option (List ℕ)) (buffered now : BufWriter W A)
     (ended last : Result (Unit {0}) Fault) (output : Option W) → writer_contents contents buffered ≡ before →
-    OnOk ended (Writes IsSo false false (writer_contents contents buffered) (writer_contents contents now)) → ArePassedOn contents now ended output last →
-    OnOk last (IsSomeAnd output (λ writer. Writes IsSo false false before (contents writer)))
+    UnlessUnheard ended (Writes (IsSo ended) false false (writer_contents contents buffered) (writer_contents contents now)) → ArePassedOn contents now ended output last →
+    UnlessUnheard last (IsSomeAnd output (λ writer. Writes (IsSo last) false false before (contents writer)))
 typed-printed contents IsSo before buffered now ended last output begins written (inr failed) =
-    subst (λ (it : Result (Unit {0}) Fault). OnOk it (IsSomeAnd output (λ writer. Writes IsSo false false before (contents writer)))) (sym failed) tt
+    subst (λ (it : Result (Unit {0}) Fault). UnlessUnheard it (IsSomeAnd output (λ writer. Writes (IsSo it) false false before (contents writer)))) (sym failed) tt
 typed-printed contents IsSo before buffered now ended last output begins written (inl (same, kept)) =
-    subst (λ (it : Result (Unit {0}) Fault). OnOk it (IsSomeAnd output (λ writer. Writes IsSo false false before (contents writer)))) (sym same)
-    (on-ok ended
-    (λ all. kept-written contents IsSo false false before (writer_contents contents now) output kept
-    (subst (λ (it : Option (List ℕ)). Writes IsSo false false it (writer_contents contents now)) begins all)) written)
+    subst (λ (it : Result (Unit {0}) Fault). UnlessUnheard it (IsSomeAnd output (λ writer. Writes (IsSo it) false false before (contents writer)))) (sym same)
+    (unless-so ended
+    (λ all. kept-written contents (IsSo ended) false false before (writer_contents contents now) output kept
+    (subst (λ (it : Option (List ℕ)). Writes (IsSo ended) false false it (writer_contents contents now)) begins all)) written)
