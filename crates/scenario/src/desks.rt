@@ -3,9 +3,11 @@ ghost use Rattle.std.specs.Prelude.{◌≡◌, ◌⊎◌, ◌↔◌, ◌≤◌, 
 ghost use Rattle.lock_manager.specs.Crews.{AreOf, SeatsAre};
 ghost use Rattle.scenario.specs.Numbers.{IsFull, IsNumbered, SeesSessions};
 
+use connections::ManagerName;
 use lock_manager::{Desk, OwnSession, Refusal, SessionPool};
 use lock_table::PartTable;
 use shared_rule::Board;
+use std::marker::PhantomData;
 use std::sync::Wait;
 
 /// Opens and closes the sessions of a script, and gives them their numbers.
@@ -16,7 +18,7 @@ pub trait ScriptDesk<S> {
     ghost use Rattle.shared_rule.specs.Boards.{Seated};
 
     // Whose sessions they are.
-    ghost manager: { Self → ManagerView };
+    ghost manager: { ManagerView };
 
     // How many numbers were given out, and how many sessions are open.
     ghost issued: { Self → ℕ };
@@ -36,38 +38,60 @@ pub trait ScriptDesk<S> {
     /// Opens a session of `database`, which holds nothing. Refused where no number is left for the session,
     /// or where memory runs out; nothing has changed after a refusal.
     fn open<R: Wait>(&mut self, rt: &R, database: u32) -> Result<S, Refusal>
-        ensures manager { manager self.new ≡ manager self.old }
-        ensures own { IfOk result (λ session. (seat session).table ≡ (manager self.old).table) }
+        ensures own { IfOk result (λ session. (seat session).table ≡ manager.table) }
         ensures database { IfOk result (λ session. database_of session ≡ database) }
         ensures nothing { IfOk result (λ session. entries session ≡ []) }
         ensures numbered { IfOk result (λ session.
-            IsNumbered again (manager self.old).limit (seat session).number (issued self.old) (issued self.new)) }
+            IsNumbered again manager.limit (seat session).number (issued self.old) (issued self.new)) }
         ensures live { OnOk result (live self.new ≡ live self.old + 1) }
         ensures within { OnOk result (live self.old ≤ issued self.old → live self.new ≤ issued self.new) }
         ensures no_more { IsErrOf result Refusal.NoMoreSessions
-            ↔ IsFull again (issued self.old) (live self.old) (manager self.old).limit }
+            ↔ IsFull again (issued self.old) (live self.old) manager.limit }
         ensures no_other { IfErr result (λ refusal. (refusal ≡ Refusal.NoMoreSessions) ⊎ (refusal ≡ Refusal.NoMemory)) }
         ensures none_live { OnErr result (live self.new ≡ live self.old) }
         ensures none_issued { OnErr result (issued self.new ≡ issued self.old) };
 
     /// Closes `session`, one of the desk's open ones. All that the session holds is released.
     fn close<R: Wait>(&mut self, rt: &R, session: S)
-        requires own { (seat session).table ≡ (manager self.old).table }
+        requires own { (seat session).table ≡ manager.table }
         requires known { (seat session).number < issued self.old }
         requires some { 0 < live self.old }
-        ensures manager { manager self.new ≡ manager self.old }
         ensures live { live self.new ≡ live self.old - 1 }
         ensures issued { issued self.new ≡ issued self.old };
 }
 
-/// A desk that gives out each session number only once, the next number to each new session.
-#[derive(Drop)]
-pub struct OnceDesk<D> {
+/// A desk that gives out each session number of the manager that `M` names only once, the next number to each
+/// new session.
+pub struct OnceDesk<S, D: Desk<S>, M: ManagerName> {
     pub desk: D,
+    of: PhantomData<(S, M)>,
+    ghost is: { D.manager desk ≡ M.manager },
 }
 
-impl<S, D: Desk<S>> ScriptDesk<S> for OnceDesk<D> {
-    ghost manager = { λ once. D.manager once.desk };
+impl<S, D: Desk<S>, M: ManagerName> OnceDesk<S, D, M> {
+    /// A desk of a script over `desk`.
+    pub fn new(desk: D) -> Self
+        requires is { D.manager desk ≡ M.manager }
+        ensures desk { result.desk ≡ desk }
+    {
+        OnceDesk {
+            desk,
+            of: PhantomData,
+        }
+    }
+
+    /// The desk that this one stands over.
+    pub fn into_desk(self) -> D
+        ensures is { D.manager result ≡ M.manager }
+        ensures desk { result ≡ self.desk }
+    {
+        let OnceDesk { desk, of: _ } = self;
+        desk
+    }
+}
+
+impl<S, D: Desk<S>, M: ManagerName> ScriptDesk<S> for OnceDesk<S, D, M> {
+    ghost manager = { M.manager };
 
     ghost issued = { λ once. D.issued once.desk };
 
@@ -90,24 +114,61 @@ impl<S, D: Desk<S>> ScriptDesk<S> for OnceDesk<D> {
     }
 }
 
-/// A desk that gives a new session the lowest number that no open session has. Closed sessions go to the
-/// desk's pool, which has room for all sessions of the manager and lends them out again.
-pub struct ReusingDesk<T: PartTable, B: Board<T>, D: Desk<OwnSession<T, B>>> {
+/// A desk that gives a new session the lowest number that no open session of the manager that `M` names has.
+/// Closed sessions go to the desk's pool, which has room for all sessions of the manager and lends them out
+/// again.
+pub struct ReusingDesk<T: PartTable, B: Board<T>, D: Desk<OwnSession<T, B>>, M: ManagerName> {
     pub desk: D,
     pub pool: SessionPool<T, B>,
+    of: PhantomData<M>,
+    ghost is: { D.manager desk ≡ M.manager },
     ghost seats: { SeatsAre B.seat D.seat },
     ghost sees: { SeesSessions D.database_of D.entries },
-    ghost own: { AreOf B.seat (D.manager desk) pool.free },
+    ghost own: { AreOf B.seat M.manager pool.free },
     ghost known: { All (λ session. (B.seat session.board).number < D.issued desk) pool.free },
     ghost none_closed: { D.live desk ≡ D.issued desk },
     ghost free: { length pool.free ≤ D.issued desk },
-    ghost issued: { D.issued desk ≤ (D.manager desk).limit },
-    ghost room: { (D.manager desk).limit ≤ length pool.lives },
+    ghost issued: { D.issued desk ≤ M.manager.limit },
+    ghost room: { M.manager.limit ≤ length pool.lives },
 }
 
-impl<T: PartTable, B: Board<T>, D: Desk<OwnSession<T, B>>> ScriptDesk<OwnSession<T, B>>
-    for ReusingDesk<T, B, D> {
-    ghost manager = { λ reusing. D.manager reusing.desk };
+impl<T: PartTable, B: Board<T>, D: Desk<OwnSession<T, B>>, M: ManagerName> ReusingDesk<T, B, D, M> {
+    /// A desk of a script over `desk` and `pool`, of which no session was opened or lent yet.
+    pub fn new(desk: D, pool: SessionPool<T, B>) -> Self
+        requires is { D.manager desk ≡ M.manager }
+        requires seats { SeatsAre B.seat D.seat }
+        requires sees { SeesSessions D.database_of D.entries }
+        requires none_free { pool.free ≡ [] }
+        requires none_issued { D.issued desk ≡ 0 }
+        requires none_live { D.live desk ≡ 0 }
+        requires room { M.manager.limit ≤ length pool.lives }
+        ensures desk { result.desk ≡ desk }
+    {
+        ReusingDesk {
+            desk,
+            pool,
+            of: PhantomData,
+        }
+    }
+
+    /// The desk that this one stands over, once the sessions of its pool are closed.
+    pub fn into_desk<R: Wait>(self, rt: &R) -> D
+        ensures is { D.manager result ≡ M.manager }
+        ensures live { D.live result ≡ D.live self.desk - length self.pool.free }
+    {
+        let ReusingDesk {
+            mut desk,
+            pool,
+            of: _,
+        } = self;
+        pool.end(rt, &mut desk);
+        desk
+    }
+}
+
+impl<T: PartTable, B: Board<T>, D: Desk<OwnSession<T, B>>, M: ManagerName> ScriptDesk<OwnSession<T, B>>
+    for ReusingDesk<T, B, D, M> {
+    ghost manager = { M.manager };
 
     ghost issued = { λ reusing. D.issued reusing.desk };
 

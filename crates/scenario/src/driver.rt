@@ -10,11 +10,13 @@ use crate::desks::{OnceDesk, ReusingDesk, ScriptDesk};
 use crate::listener::Listener;
 use crate::run::Scene;
 use crate::sessions::ScriptState;
+use connections::ManagerName;
 use lock_manager::{Config, Desk, Manager, ManagerDesk, OwnSession, Part, Session, SessionPool};
-use lock_script::{Fault, Names, OpenSessions};
+use lock_script::{Fault, OpenSessions};
 use lock_table::PartTable;
 use shared_rule::{Board, SeatBoard};
-use std::alloc::{AllocError, Global};
+use std::alloc::Global;
+use std::marker::Brand;
 use std::sync::Wait;
 
 /// What is done in a scene: the lines of a script are run, or those that somebody types, or the orders of a
@@ -32,21 +34,17 @@ pub trait Act<L: Listener> {
         rt: &H,
         scene: &mut Scene<T, B, D, L>,
     ) -> Result<(), Fault>
-        requires seats { SeatsAre B.seat D.seat }
         ensures acted { acts _ B.seat B.view B.stack D.again D.database_of D.entries self
             (record { sessions = scene.old.state.sessions; names = scene.old.state.names }) scene.old.listener result
-            scene.new.listener }
-        ensures manager { D.manager scene.new.state.desk ≡ D.manager scene.old.state.desk };
+            scene.new.listener };
 }
 
 impl<T: PartTable, B: Board<T>, D: ScriptDesk<OwnSession<T, B>>, L: Listener> Scene<T, B, D, L> {
     /// Has `act` be done in the scene, and then closes the sessions that are open.
     pub fn act_out<H: Wait, A: Act<L>>(&mut self, rt: &H, act: A) -> Result<(), Fault>
-        requires seats { SeatsAre B.seat D.seat }
         ensures acted { A.acts _ B.seat B.view B.stack D.again D.database_of D.entries act
             (record { sessions = self.old.state.sessions; names = self.old.state.names }) self.old.listener result
             self.new.listener }
-        ensures manager { D.manager self.new.state.desk ≡ D.manager self.old.state.desk }
         ensures none_waits { self.new.state.sessions.waiting ≡ [] }
         ensures none_open { self.new.state.sessions.resting ≡ [] }
         ensures none_live { D.live self.new.state.desk ≡ 0 }
@@ -116,9 +114,9 @@ fn drive_at<
     ensures none_live { IfSome result.1 (λ driven. D.live driven.0 ≡ 0) }
 {
     if reuse {
-        drive_reusing(rt, alloc, desk, listener, act)
+        drive_reusing::<T, B, D, Brand, H, L, A>(rt, alloc, desk, listener, act)
     } else {
-        drive_once(rt, alloc, desk, listener, act)
+        drive_once::<T, B, D, Brand, H, L, A>(rt, alloc, desk, listener, act)
     }
 }
 
@@ -127,22 +125,26 @@ fn drive_once<
     T: PartTable,
     B: Board<T>,
     D: Desk<OwnSession<T, B>> + Drop,
+    M: ManagerName,
     H: Wait,
     L: Listener,
     A: Act<L> + Drop,
 >(rt: &H, alloc: Global, desk: D, listener: L, act: A) -> (L, Option<(D, Result<(), Fault>)>)
+    requires is { D.manager desk ≡ M.manager }
     requires seats { SeatsAre B.seat D.seat }
-    requires few { (D.manager desk).limit ≤ usual_sessions }
+    requires few { M.manager.limit ≤ usual_sessions }
     requires none_issued { D.issued desk ≡ 0 }
     requires none_live { D.live desk ≡ 0 }
     ensures acted { IfSome result.1 (λ driven.
         A.acts _ B.seat B.view B.stack false D.database_of D.entries act no_cast listener driven.1 result.0) }
-    ensures manager { IfSome result.1 (λ driven. D.manager driven.0 ≡ D.manager desk) }
+    ensures is { IfSome result.1 (λ driven. D.manager driven.0 ≡ M.manager) }
     ensures none_live { IfSome result.1 (λ driven. D.live driven.0 ≡ 0) }
 {
-    let Ok(state) = ScriptState::new(alloc, OnceDesk { desk }) else {
+    let Ok(sessions) = OpenSessions::new(alloc) else {
         return (listener, None);
     };
+    let desk = OnceDesk::<OwnSession<T, B>, D, M>::new(desk);
+    let state = ScriptState::new(alloc, desk, sessions);
     let mut scene = Scene { state, listener };
     let ended = scene.act_out(rt, act);
     let Scene { state, listener } = scene;
@@ -152,7 +154,7 @@ fn drive_once<
         sessions,
     } = state;
     sessions.finish();
-    (listener, Some((desk.desk, ended)))
+    (listener, Some((desk.into_desk(), ended)))
 }
 
 /// Has `act` be done as `drive_at` does, where the numbers of closed sessions are given out again.
@@ -160,23 +162,31 @@ fn drive_reusing<
     T: PartTable,
     B: Board<T>,
     D: Desk<OwnSession<T, B>> + Drop,
+    M: ManagerName,
     H: Wait,
     L: Listener,
     A: Act<L> + Drop,
 >(rt: &H, alloc: Global, desk: D, listener: L, act: A) -> (L, Option<(D, Result<(), Fault>)>)
+    requires is { D.manager desk ≡ M.manager }
     requires seats { SeatsAre B.seat D.seat }
     requires sees { SeesSessions D.database_of D.entries }
-    requires few { (D.manager desk).limit ≤ usual_sessions }
+    requires few { M.manager.limit ≤ usual_sessions }
     requires none_issued { D.issued desk ≡ 0 }
     requires none_live { D.live desk ≡ 0 }
     ensures acted { IfSome result.1 (λ driven.
         A.acts _ B.seat B.view B.stack true D.database_of D.entries act no_cast listener driven.1 result.0) }
-    ensures manager { IfSome result.1 (λ driven. D.manager driven.0 ≡ D.manager desk) }
+    ensures is { IfSome result.1 (λ driven. D.manager driven.0 ≡ M.manager) }
     ensures none_live { IfSome result.1 (λ driven. D.live driven.0 ≡ 0) }
 {
-    let Ok(state) = ScriptState::reusing(alloc, desk) else {
+    let Ok(sessions) = OpenSessions::new(alloc) else {
         return (listener, None);
     };
+    let Ok(pool) = SessionPool::new(alloc) else {
+        sessions.finish();
+        return (listener, None);
+    };
+    let desk = ReusingDesk::<T, B, D, M>::new(desk, pool);
+    let state = ScriptState::new(alloc, desk, sessions);
     let mut scene = Scene { state, listener };
     let ended = scene.act_out(rt, act);
     let Scene { state, listener } = scene;
@@ -186,36 +196,5 @@ fn drive_reusing<
         sessions,
     } = state;
     sessions.finish();
-    let ReusingDesk { mut desk, pool } = desk;
-    pool.end(rt, &mut desk);
-    (listener, Some((desk, ended)))
-}
-
-impl<T: PartTable, B: Board<T>, D: Desk<OwnSession<T, B>>> ScriptState<T, B, ReusingDesk<T, B, D>> {
-    /// A state as `new` makes it, at a desk over `desk` that gives the numbers of closed sessions out again.
-    /// The desk is let go where there is no memory for the lists of sessions.
-    pub fn reusing(alloc: Global, desk: D) -> Result<Self, AllocError>
-    where
-        D: Drop,
-        requires seats { SeatsAre B.seat D.seat }
-        requires sees { SeesSessions D.database_of D.entries }
-        requires few { (D.manager desk).limit ≤ usual_sessions }
-        requires none_issued { D.issued desk ≡ 0 }
-        requires none_live { D.live desk ≡ 0 }
-        ensures desk { IfOk result (λ state. state.desk.desk ≡ desk) }
-        ensures none_waits { IfOk result (λ state. state.sessions.waiting ≡ []) }
-        ensures none_open { IfOk result (λ state. state.sessions.resting ≡ []) }
-        ensures unnamed { IfOk result (λ state. state.names ≡ (record { sessions = []; objects = [] })) }
-    {
-        let sessions = OpenSessions::new(alloc)?;
-        let Ok(pool) = SessionPool::new(alloc) else {
-            sessions.finish();
-            return Err(AllocError);
-        };
-        Ok(ScriptState {
-            desk: ReusingDesk { desk, pool },
-            names: Names::new(alloc),
-            sessions,
-        })
-    }
+    (listener, Some((desk.into_desk(rt), ended)))
 }

@@ -1,6 +1,5 @@
 //! Runs in which a line whose session waits is kept until that goes on.
 ghost use Rattle.std.specs.Prelude.{◌≡◌, ◌⊎◌, ◌^◌, ◌-◌, IfErr, IfOk, None, OnOk, map, min};
-ghost use Rattle.lock_manager.specs.Crews.{SeatsAre};
 ghost use Rattle.lock_script.specs.Kept.{kept_count};
 ghost use Rattle.scenario.specs.Heard.{IsUnheard, Kept, Left};
 ghost use Rattle.scenario.specs.InTurn.{DoesLine, FailsIn, FailsKept, FailsPlain, IsBad, IsKeptFor, RunsKept, TakesIn};
@@ -41,11 +40,9 @@ impl<T: PartTable, B: Board<T>, D: ScriptDesk<OwnSession<T, B>>, L: Listener> Sc
         reader: R,
         keeping: Keeping,
     ) -> Result<(), Fault>
-        requires seats { SeatsAre B.seat D.seat }
         ensures played { IsKeptHeard B.seat B.view B.stack D.again D.database_of D.entries L.hears keeping.speaks keeping.keeps
             (R.remaining reader) (record { sessions = self.old.state.sessions; names = self.old.state.names }) self.old.listener
             result self.new.listener }
-        ensures manager { D.manager self.new.state.desk ≡ D.manager self.old.state.desk }
     {
         let mut lines = LineReader::new(reader);
         let mut kept = KeptLines::new(keeping.alloc);
@@ -75,7 +72,6 @@ impl<T: PartTable, B: Board<T>, D: ScriptDesk<OwnSession<T, B>>, L: Listener> Sc
         script: &mut Spoken,
         line: ReadLine<'_>,
     ) -> Result<(), Fault>
-        requires seats { SeatsAre B.seat D.seat }
         ensures done { OnOk result ((said : Said) × IsHeardBy script.old.script line.entry.text.now said
             × DoesLine (play_of B.seat B.view B.stack D.again D.database_of D.entries L.hears) keeping.keeps
             (stage_of self.old.state.sessions self.old.state.names self.old.listener) kept.old
@@ -87,7 +83,6 @@ impl<T: PartTable, B: Board<T>, D: ScriptDesk<OwnSession<T, B>>, L: Listener> Sc
             (record { number = line.entry.number; text = line.entry.text.now }))
             (stage_of self.new.state.sessions self.new.state.names self.new.listener)) }
         ensures silent { script.old.script ≡ None → script.new.script ≡ None }
-        ensures manager { D.manager self.new.state.desk ≡ D.manager self.old.state.desk }
     {
         match script.hear(line) {
             Ok(heard) => self.run_heard(rt, keeping, kept, line, &heard),
@@ -103,7 +98,6 @@ impl<T: PartTable, B: Board<T>, D: ScriptDesk<OwnSession<T, B>>, L: Listener> Sc
         kept: &mut KeptLines,
         line: ReadLine<'_>,
     ) -> Result<(), Fault>
-        requires seats { SeatsAre B.seat D.seat }
         ensures taken { OnOk result (TakesIn (play_of B.seat B.view B.stack D.again D.database_of D.entries L.hears)
             (stage_of self.old.state.sessions self.old.state.names self.old.listener) kept.old
             (record { number = line.entry.number; text = line.entry.text.now })
@@ -112,7 +106,6 @@ impl<T: PartTable, B: Board<T>, D: ScriptDesk<OwnSession<T, B>>, L: Listener> Sc
             (stage_of self.old.state.sessions self.old.state.names self.old.listener) kept.old
             (record { number = line.entry.number; text = line.entry.text.now }))
             (stage_of self.new.state.sessions self.new.state.names self.new.listener)) }
-        ensures manager { D.manager self.new.state.desk ≡ D.manager self.old.state.desk }
     {
         match kept.session_before(line.text, &self.state.sessions) {
             Some(session) => self.keep(alloc, kept, session, line),
@@ -137,7 +130,6 @@ impl<T: PartTable, B: Board<T>, D: ScriptDesk<OwnSession<T, B>>, L: Listener> Sc
         ensures bad { IfErr result (IsBad (λ bad _ now. (bad ≡ record { number = line.entry.number; text = line.entry.text.now })
             × L.hears self.old.listener (Kept line.entry.number line.entry.text.now) now) self.new.listener) }
         ensures state { self.new.state ≡ self.old.state }
-        ensures manager { D.manager self.new.state.desk ≡ D.manager self.old.state.desk }
     {
         let state = &self.state;
         let defect = kept.defect(alloc, line.text, &state.sessions, &state.names.objects);
@@ -154,14 +146,12 @@ impl<T: PartTable, B: Board<T>, D: ScriptDesk<OwnSession<T, B>>, L: Listener> Sc
         kept: &mut KeptLines,
         more: bool,
     ) -> Result<(), Fault>
-        requires seats { SeatsAre B.seat D.seat }
         ensures ran { OnOk result (RunsKept (play_of B.seat B.view B.stack D.again D.database_of D.entries L.hears)
             (stage_of self.old.state.sessions self.old.state.names self.old.listener) kept.old
             (stage_of self.new.state.sessions self.new.state.names self.new.listener) kept.new) }
         ensures bad { IfErr result (IsBad (FailsKept (play_of B.seat B.view B.stack D.again D.database_of D.entries L.hears)
             (stage_of self.old.state.sessions self.old.state.names self.old.listener) kept.old)
             (stage_of self.new.state.sessions self.new.state.names self.new.listener)) }
-        ensures manager { D.manager self.new.state.desk ≡ D.manager self.old.state.desk }
     {
         'ready: while let Some((_, line)) = kept.take_ready(&self.state.sessions) {
             self.run_line(rt, line.number, line.text.as_str(), more)?;
@@ -174,7 +164,6 @@ impl<T: PartTable, B: Board<T>, D: ScriptDesk<OwnSession<T, B>>, L: Listener> Sc
         ensures heard { OnOk result (L.hears self.old.listener
             (Left (map (λ one. one.name) self.old.state.sessions.waiting) (min (kept_count kept.now) (2 ^ 64 - 1))) self.new.listener) }
         ensures unheard { IfErr result IsUnheard }
-        ensures manager { D.manager self.new.state.desk ≡ D.manager self.old.state.desk }
     {
         let state = &self.state;
         match names_in(alloc, &state.sessions.waiting) {

@@ -1,6 +1,5 @@
 //! Scripts: a line is read, run and answered before the next one is read.
 ghost use Rattle.std.specs.Prelude.{◌≡◌, ◌≤◌, ◌<◌, true, length, Ok, IfOk, IfErr, IfSome, OnOk};
-ghost use Rattle.lock_manager.specs.Crews.{SeatsAre};
 ghost use Rattle.lock_script.specs.Command.{Addresses, NamesCounter, NamesFree};
 ghost use Rattle.lock_script.specs.Sessions.{IsThere, MayAct};
 ghost use Rattle.scenario.specs.Heard.{Hears, IsEnd, IsLastPicture, IsUnheard};
@@ -30,7 +29,6 @@ impl<T: PartTable, B: Board<T>, D: ScriptDesk<OwnSession<T, B>>, L: Listener> Sc
     pub(crate) fn tell_end<H: Wait>(&mut self, rt: &H, tells_left: bool) -> Result<(), Fault>
         ensures heard { OnOk result (Hears L.hears self.old.listener self.new.listener IsEnd) }
         ensures unheard { IfErr result IsUnheard }
-        ensures manager { D.manager self.new.state.desk ≡ D.manager self.old.state.desk }
     {
         self.draw_last(rt)?;
         let state = &self.state;
@@ -41,7 +39,6 @@ impl<T: PartTable, B: Board<T>, D: ScriptDesk<OwnSession<T, B>>, L: Listener> Sc
     fn draw_last<H: Wait>(&mut self, rt: &H) -> Result<(), Fault>
         ensures drawn { OnOk result (Hears L.hears self.old.listener self.new.listener IsLastPicture) }
         ensures unheard { IfErr result IsUnheard }
-        ensures manager { D.manager self.new.state.desk ≡ D.manager self.old.state.desk }
     {
         let Some(pen) = self.listener.last_pen() else {
             return Ok(());
@@ -62,10 +59,8 @@ impl<T: PartTable, B: Board<T>, D: ScriptDesk<OwnSession<T, B>>, L: Listener> Sc
         rt: &H,
         reader: R,
     ) -> Result<(), Fault>
-        requires seats { SeatsAre B.seat D.seat }
         ensures played { IsScriptHeard B.seat B.view B.stack D.again D.database_of D.entries L.hears (R.remaining reader)
             (record { sessions = self.old.state.sessions; names = self.old.state.names }) self.old.listener result self.new.listener }
-        ensures manager { D.manager self.new.state.desk ≡ D.manager self.old.state.desk }
     {
         let mut lines = LineReader::new(reader);
         'lines: while let Some(line) = lines.next_line()? {
@@ -84,7 +79,6 @@ impl<T: PartTable, B: Board<T>, D: ScriptDesk<OwnSession<T, B>>, L: Listener> Sc
         line: &str,
         more: bool,
     ) -> Result<(), Fault>
-        requires seats { SeatsAre B.seat D.seat }
         ensures played { OnOk result (Hears L.hears self.old.listener self.new.listener (λ heard.
             PlaysLine B.seat B.view B.stack D.again D.database_of D.entries number
             (record { sessions = self.old.state.sessions; names = self.old.state.names }) line.now heard
@@ -92,7 +86,6 @@ impl<T: PartTable, B: Board<T>, D: ScriptDesk<OwnSession<T, B>>, L: Listener> Sc
         ensures bad { IfErr result (λ fault. IsBadLine L.hears number
             (record { sessions = self.old.state.sessions; names = self.old.state.names }) self.old.listener line.now fault
             (record { sessions = self.new.state.sessions; names = self.new.state.names }) self.new.listener) }
-        ensures manager { D.manager self.new.state.desk ≡ D.manager self.old.state.desk }
     {
         let state = &self.state;
         let parsed = parse(line, &state.sessions, &state.names.objects);
@@ -107,7 +100,6 @@ impl<T: PartTable, B: Board<T>, D: ScriptDesk<OwnSession<T, B>>, L: Listener> Sc
 
     /// Runs `command` and then polls those who wait, and tells the listener the answer and who goes on.
     pub fn run<H: Wait>(&mut self, rt: &H, command: Command) -> Result<(), Fault>
-        requires seats { SeatsAre B.seat D.seat }
         requires addressed { Addresses self.old.state.sessions command }
         requires counter { NamesCounter command }
         requires free { NamesFree self.old.state.names.objects command }
@@ -116,7 +108,6 @@ impl<T: PartTable, B: Board<T>, D: ScriptDesk<OwnSession<T, B>>, L: Listener> Sc
             (record { sessions = self.old.state.sessions; names = self.old.state.names }) command heard
             (record { sessions = self.new.state.sessions; names = self.new.state.names }))) }
         ensures unheard { IfErr result IsUnheard }
-        ensures manager { D.manager self.new.state.desk ≡ D.manager self.old.state.desk }
     {
         let lister = lister_of(&command);
         let answer = self.state.answer(rt, command);
@@ -140,7 +131,6 @@ impl<T: PartTable, B: Board<T>, D: ScriptDesk<OwnSession<T, B>>, L: Listener> Sc
             (record { sessions = self.old.state.sessions; names = self.old.state.names }) more
             (record { sessions = self.new.state.sessions; names = self.new.state.names }))) }
         ensures unheard { IfErr result IsUnheard }
-        ensures manager { D.manager self.new.state.desk ≡ D.manager self.old.state.desk }
     {
         if let Some(name) = waiter_of(answer) {
             return self.tell_wait(rt, name);
@@ -161,7 +151,6 @@ impl<T: PartTable, B: Board<T>, D: ScriptDesk<OwnSession<T, B>>, L: Listener> Sc
             (record { sessions = self.old.state.sessions; names = self.old.state.names }) more
             (record { sessions = self.new.state.sessions; names = self.new.state.names }))) }
         ensures unheard { IfErr result IsUnheard }
-        ensures manager { D.manager self.new.state.desk ≡ D.manager self.old.state.desk }
     {
         if !self.listener.wants_waits() {
             return Ok(());
@@ -185,7 +174,6 @@ impl<T: PartTable, B: Board<T>, D: ScriptDesk<OwnSession<T, B>>, L: Listener> Sc
             (record { sessions = self.old.state.sessions; names = self.old.state.names }) picture
             (record { sessions = self.new.state.sessions; names = self.new.state.names }))) }
         ensures unheard { IfErr result IsUnheard }
-        ensures manager { D.manager self.new.state.desk ≡ D.manager self.old.state.desk }
     {
         let Some(pen) = self.listener.pen() else {
             return Ok(());
@@ -213,7 +201,6 @@ impl<T: PartTable, B: Board<T>, D: ScriptDesk<OwnSession<T, B>>, L: Listener> Sc
             (record { sessions = self.old.state.sessions; names = self.old.state.names }) news
             (record { sessions = self.new.state.sessions; names = self.new.state.names }))) }
         ensures unheard { IfErr result IsUnheard }
-        ensures manager { D.manager self.new.state.desk ≡ D.manager self.old.state.desk }
     {
         'passes: while self.poll_each(rt)? {}
         Ok(())
@@ -227,7 +214,6 @@ impl<T: PartTable, B: Board<T>, D: ScriptDesk<OwnSession<T, B>>, L: Listener> Sc
         ensures fewer { result ≡ Ok true →
             length self.new.state.sessions.waiting < length self.old.state.sessions.waiting }
         ensures unheard { IfErr result IsUnheard }
-        ensures manager { D.manager self.new.state.desk ≡ D.manager self.old.state.desk }
     {
         let mut went_on = false;
         let mut place = 0;
@@ -252,7 +238,6 @@ impl<T: PartTable, B: Board<T>, D: ScriptDesk<OwnSession<T, B>>, L: Listener> Sc
             (record { sessions = self.old.state.sessions; names = self.old.state.names }) self.old.listener place went_on
             (record { sessions = self.new.state.sessions; names = self.new.state.names }) self.new.listener) }
         ensures unheard { IfErr result IsUnheard }
-        ensures manager { D.manager self.new.state.desk ≡ D.manager self.old.state.desk }
     {
         match self.state.poll(rt, place) {
             None => Ok(false),

@@ -91,49 +91,51 @@ pub struct ScriptState<T: PartTable, B: Board<T>, D: ScriptDesk<OwnSession<T, B>
     pub desk: D,
     pub names: Names,
     pub sessions: OpenSessions<OwnSession<T, B>, OwnWaiting<T, B>>,
+    ghost seats: { SeatsAre B.seat D.seat },
     ghost named: { length names.sessions ≡ D.issued desk },
-    ghost few: { (D.manager desk).limit ≤ usual_sessions },
-    ghost issued: { D.issued desk ≤ (D.manager desk).limit },
+    ghost few: { D.manager.limit ≤ usual_sessions },
+    ghost issued: { D.issued desk ≤ D.manager.limit },
     ghost within: { D.live desk ≤ D.issued desk },
     ghost counted: { D.live desk ≡ length sessions.resting + length sessions.waiting },
-    ghost resting: { All (λ one. IsKnown (B.seat one.session.board) (D.manager desk) (D.issued desk)) sessions.resting },
-    ghost waiting: { All (λ one. IsKnown (B.seat one.session.board) (D.manager desk) (D.issued desk)) sessions.waiting },
+    ghost resting: { All (λ one. IsKnown (B.seat one.session.board) D.manager (D.issued desk)) sessions.resting },
+    ghost waiting: { All (λ one. IsKnown (B.seat one.session.board) D.manager (D.issued desk)) sessions.waiting },
 }
 
 impl<T: PartTable, B: Board<T>, D: ScriptDesk<OwnSession<T, B>>> ScriptState<T, B, D> {
     ghost use Rattle.lock_script.specs.Sessions.{IsThere, MayAct};
 
-    /// The state of a script that acts on `desk`, of which no session was opened yet. The desk is let go
-    /// where there is no memory for the list of sessions.
-    pub fn new(alloc: Global, desk: D) -> Result<Self, AllocError>
-    where
-        D: Drop,
-        requires few { (D.manager desk).limit ≤ usual_sessions }
+    /// The state of a script that acts on `desk`, of which no session was opened yet, with `sessions`, of which
+    /// none is open.
+    pub fn new(
+        alloc: Global,
+        desk: D,
+        sessions: OpenSessions<OwnSession<T, B>, OwnWaiting<T, B>>,
+    ) -> Self
+        requires seats { SeatsAre B.seat D.seat }
+        requires few { D.manager.limit ≤ usual_sessions }
         requires none_issued { D.issued desk ≡ 0 }
         requires none_live { D.live desk ≡ 0 }
-        ensures desk { IfOk result (λ state. state.desk ≡ desk) }
-        ensures none_waits { IfOk result (λ state. state.sessions.waiting ≡ []) }
-        ensures none_open { IfOk result (λ state. state.sessions.resting ≡ []) }
-        ensures unnamed { IfOk result (λ state. state.names ≡ (record { sessions = []; objects = [] })) }
+        requires none_waits { sessions.waiting ≡ [] }
+        requires none_open { sessions.resting ≡ [] }
+        ensures desk { result.desk ≡ desk }
+        ensures sessions { result.sessions ≡ sessions }
+        ensures unnamed { result.names ≡ (record { sessions = []; objects = [] }) }
     {
-        let sessions = OpenSessions::new(alloc)?;
-        Ok(ScriptState {
+        ScriptState {
             desk,
             names: Names::new(alloc),
             sessions,
-        })
+        }
     }
 
     /// Has the session that `command` names do what `command` says, and answers the command.
     pub fn answer<H: Wait>(&mut self, rt: &H, command: Command) -> Answer
-        requires seats { SeatsAre B.seat D.seat }
         requires addressed { Addresses self.old.sessions command }
         requires counter { NamesCounter command }
         requires free { NamesFree self.old.names.objects command }
         ensures answered { Answers B.seat B.view B.stack D.again D.database_of D.entries
             (record { sessions = self.old.sessions; names = self.old.names })
             (record { sessions = self.new.sessions; names = self.new.names }) command result }
-        ensures manager { D.manager self.new.desk ≡ D.manager self.old.desk }
     {
         let other = self.other_of(&command);
         match action_of(command, other) {
@@ -161,14 +163,12 @@ impl<T: PartTable, B: Board<T>, D: ScriptDesk<OwnSession<T, B>>> ScriptState<T, 
 
     /// Opens a session of `database` under the name `name`.
     fn open<H: Wait>(&mut self, rt: &H, name: Name, database: u32) -> Answer
-        requires seats { SeatsAre B.seat D.seat }
         ensures opened { Opens B.seat D.again D.database_of D.entries
             (record { sessions = self.old.sessions; names = self.old.names })
             (record { sessions = self.new.sessions; names = self.new.names }) name database result
             ⊎ OpensNone
             (record { sessions = self.old.sessions; names = self.old.names })
             (record { sessions = self.new.sessions; names = self.new.names }) name result }
-        ensures manager { D.manager self.new.desk ≡ D.manager self.old.desk }
     {
         match self.desk.open(rt, database) {
             Ok(opened) => {
@@ -199,11 +199,9 @@ impl<T: PartTable, B: Board<T>, D: ScriptDesk<OwnSession<T, B>>> ScriptState<T, 
     /// Closes the session `caller`. The session's name is free again, and its number is where the desk gives
     /// those of closed sessions out again.
     fn close<H: Wait>(&mut self, rt: &H, caller: Caller) -> Answer
-        requires seats { SeatsAre B.seat D.seat }
         requires place { MayAct self.old.sessions caller.place }
         ensures closed { ClosesAt B.seat B.view B.stack self.old.sessions self.new.sessions caller result }
         ensures names { self.new.names ≡ self.old.names }
-        ensures manager { D.manager self.new.desk ≡ D.manager self.old.desk }
         ensures live { D.live self.new.desk + 1 ≡ D.live self.old.desk }
     {
         let Named { session, .. } = self.sessions.resting.take(caller.place);
@@ -217,7 +215,6 @@ impl<T: PartTable, B: Board<T>, D: ScriptDesk<OwnSession<T, B>>> ScriptState<T, 
         ensures locked { AcquiresAt B.seat B.view B.stack self.old.sessions self.new.sessions target owner result
             ⊎ WaitsAt B.seat B.view B.stack self.old.sessions self.new.sessions target owner result }
         ensures names { self.new.names ≡ self.old.names }
-        ensures manager { D.manager self.new.desk ≡ D.manager self.old.desk }
     {
         let Named { name, session } = self.sessions.resting.take(target.caller.place);
         match begin(rt, session, target.tag, target.mode, owner) {
@@ -238,7 +235,6 @@ impl<T: PartTable, B: Board<T>, D: ScriptDesk<OwnSession<T, B>>> ScriptState<T, 
         requires counter { ShowsCounter call }
         ensures called { CallsAt B.seat B.view B.stack self.old.sessions self.new.sessions caller call result }
         ensures names { self.new.names ≡ self.old.names }
-        ensures manager { D.manager self.new.desk ≡ D.manager self.old.desk }
     {
         let session = self.sessions.resting.session_mut(caller.place);
         make(rt, session, caller.name, call)
@@ -257,7 +253,6 @@ impl<T: PartTable, B: Board<T>, D: ScriptDesk<OwnSession<T, B>>> ScriptState<T, 
         ensures looked { (after : SessionView B) × (self.new.sessions.resting ≡ with_session self.old.sessions.resting place after) }
         ensures waiting { self.new.sessions.waiting ≡ self.old.sessions.waiting }
         ensures names { self.new.names ≡ self.old.names }
-        ensures manager { D.manager self.new.desk ≡ D.manager self.old.desk }
     {
         let session = self.sessions.resting.session_mut(place);
         let mut picture = draw(rt, session, pen, rows)?;
@@ -302,7 +297,6 @@ impl<T: PartTable, B: Board<T>, D: ScriptDesk<OwnSession<T, B>>> ScriptState<T, 
         ensures told { IfOk result (TellsBlockedAt B.seat B.view B.stack self.old.sessions self.new.sessions place) }
         ensures as_many { length self.new.sessions.waiting ≡ length self.old.sessions.waiting }
         ensures names { self.new.names ≡ self.old.names }
-        ensures manager { D.manager self.new.desk ≡ D.manager self.old.desk }
     {
         let waiting = self.sessions.waiting.session_mut(place);
         tell_blocked(rt, waiting)
@@ -314,7 +308,6 @@ impl<T: PartTable, B: Board<T>, D: ScriptDesk<OwnSession<T, B>>> ScriptState<T, 
         requires { place < length self.old.sessions.waiting }
         ensures as_many { length self.new.sessions.waiting ≡ length self.old.sessions.waiting }
         ensures names { self.new.names ≡ self.old.names }
-        ensures manager { D.manager self.new.desk ≡ D.manager self.old.desk }
     {
         let waiting = self.sessions.waiting.session_mut(place);
         waiting.queue(rt)
@@ -324,7 +317,6 @@ impl<T: PartTable, B: Board<T>, D: ScriptDesk<OwnSession<T, B>>> ScriptState<T, 
     /// where there is no memory for it.
     pub fn last_picture<H: Wait>(&mut self, rt: &H, pen: Pen) -> Result<Picture, Refusal>
         ensures names { self.new.names ≡ self.old.names }
-        ensures manager { D.manager self.new.desk ≡ D.manager self.old.desk }
     {
         let mut picture = Picture::new(pen);
         'waits: for place in 0..self.sessions.waiting.len() {
@@ -362,7 +354,6 @@ impl<T: PartTable, B: Board<T>, D: ScriptDesk<OwnSession<T, B>>> ScriptState<T, 
         ensures names { self.new.names ≡ self.old.names }
         ensures waiting { length self.new.sessions.waiting + (if is_some result then 1 else 0)
             ≡ length self.old.sessions.waiting }
-        ensures manager { D.manager self.new.desk ≡ D.manager self.old.desk }
     {
         let Named { name, session } = self.sessions.waiting.take(place);
         match poll_wait(rt, session) {
@@ -380,8 +371,6 @@ impl<T: PartTable, B: Board<T>, D: ScriptDesk<OwnSession<T, B>>> ScriptState<T, 
     /// Cancels the waits of the sessions that wait, and then closes all sessions, in the byte order of their
     /// names.
     pub fn close_all<H: Wait>(&mut self, rt: &H)
-        requires seats { SeatsAre B.seat D.seat }
-        ensures manager { D.manager self.new.desk ≡ D.manager self.old.desk }
         ensures none_waits { self.new.sessions.waiting ≡ [] }
         ensures none_open { self.new.sessions.resting ≡ [] }
         ensures none_live { D.live self.new.desk ≡ 0 }
@@ -394,7 +383,6 @@ impl<T: PartTable, B: Board<T>, D: ScriptDesk<OwnSession<T, B>>> ScriptState<T, 
 
     /// Cancels the waits of the sessions that wait.
     pub fn cancel_all<H: Wait>(&mut self, rt: &H)
-        ensures manager { D.manager self.new.desk ≡ D.manager self.old.desk }
         ensures none_waits { self.new.sessions.waiting ≡ [] }
     {
         'waits: while let Some(first) = self.sessions.waiting.take_first() {

@@ -1,7 +1,6 @@
 //! Runs of scripts that speak SQL: a schema makes tables, and a session plays what the statements of its `do`
 //! lines lock.
 ghost use Rattle.std.specs.Prelude.{◌≡◌, [], ◌∷◌, IfErr, IfOk, IsOk, None, Ok, OnOk, false, map, string_bytes};
-ghost use Rattle.lock_manager.specs.Crews.{SeatsAre};
 ghost use Rattle.scenario.specs.Heard.{Done, Hears, HearsAll, Line};
 ghost use Rattle.scenario.specs.InTurn.{DoesLine, FailsPlain, IsBad, NamesTable, NamesTables, PlaysStatements, TakesInEach, lines_at, may_be_named, name_line, tables_in};
 ghost use Rattle.scenario.specs.Scripts.{PlaysLine};
@@ -74,7 +73,6 @@ impl<T: PartTable, B: Board<T>, D: ScriptDesk<OwnSession<T, B>>, L: Listener> Sc
         line: ReadLine<'_>,
         heard: &Heard,
     ) -> Result<(), Fault>
-        requires seats { SeatsAre B.seat D.seat }
         ensures done { OnOk result (DoesLine (play_of B.seat B.view B.stack D.again D.database_of D.entries L.hears) keeping.keeps
             (stage_of self.old.state.sessions self.old.state.names self.old.listener) kept.old
             (record { number = line.entry.number; text = line.entry.text.now }) heard.now
@@ -84,7 +82,6 @@ impl<T: PartTable, B: Board<T>, D: ScriptDesk<OwnSession<T, B>>, L: Listener> Sc
             (stage_of self.old.state.sessions self.old.state.names self.old.listener) kept.old
             (record { number = line.entry.number; text = line.entry.text.now }))
             (stage_of self.new.state.sessions self.new.state.names self.new.listener)) }
-        ensures manager { D.manager self.new.state.desk ≡ D.manager self.old.state.desk }
     {
         match heard {
             Heard::Plain => self.run_plain(rt, keeping, kept, line),
@@ -105,7 +102,6 @@ impl<T: PartTable, B: Board<T>, D: ScriptDesk<OwnSession<T, B>>, L: Listener> Sc
         kept: &mut KeptLines,
         line: ReadLine<'_>,
     ) -> Result<(), Fault>
-        requires seats { SeatsAre B.seat D.seat }
         ensures done { OnOk result (DoesLine (play_of B.seat B.view B.stack D.again D.database_of D.entries L.hears) keeping.keeps
             (stage_of self.old.state.sessions self.old.state.names self.old.listener) kept.old
             (record { number = line.entry.number; text = line.entry.text.now }) Heard.Plain
@@ -115,7 +111,6 @@ impl<T: PartTable, B: Board<T>, D: ScriptDesk<OwnSession<T, B>>, L: Listener> Sc
             (stage_of self.old.state.sessions self.old.state.names self.old.listener) kept.old
             (record { number = line.entry.number; text = line.entry.text.now }))
             (stage_of self.new.state.sessions self.new.state.names self.new.listener)) }
-        ensures manager { D.manager self.new.state.desk ≡ D.manager self.old.state.desk }
     {
         if keeping.keeps {
             return self.take_in(rt, keeping.alloc, kept, line);
@@ -129,7 +124,6 @@ impl<T: PartTable, B: Board<T>, D: ScriptDesk<OwnSession<T, B>>, L: Listener> Sc
         ensures shown { OnOk result (HearsAll L.hears self.old.listener
             (Line line.entry.number line.entry.text.now ∷ Done ∷ []) self.new.listener) }
         ensures state { self.new.state ≡ self.old.state }
-        ensures manager { D.manager self.new.state.desk ≡ D.manager self.old.state.desk }
     {
         self.listener.begin_line(line.number, line.text, line.more)?;
         self.listener.end_line()
@@ -155,12 +149,10 @@ impl<T: PartTable, B: Board<T>, D: ScriptDesk<OwnSession<T, B>>, L: Listener> Sc
         line: ReadLine<'_>,
         statements: &Statements,
     ) -> Result<(), Fault>
-        requires seats { SeatsAre B.seat D.seat }
         ensures played { OnOk result (PlaysStatements (play_of B.seat B.view B.stack D.again D.database_of D.entries L.hears)
             (stage_of self.old.state.sessions self.old.state.names self.old.listener) kept.old line.entry.number
             (string_bytes statements.now.session) statements.now.turns.items
             (stage_of self.new.state.sessions self.new.state.names self.new.listener) kept.new) }
-        ensures manager { D.manager self.new.state.desk ≡ D.manager self.old.state.desk }
     {
         let session = statements.session.as_str();
         if !self.is_known(kept, session) {
@@ -186,12 +178,10 @@ impl<T: PartTable, B: Board<T>, D: ScriptDesk<OwnSession<T, B>>, L: Listener> Sc
         line: ReadLine<'_>,
         texts: &Vec<String>,
     ) -> Result<(), Fault>
-        requires seats { SeatsAre B.seat D.seat }
         ensures taken { OnOk result (TakesInEach (play_of B.seat B.view B.stack D.again D.database_of D.entries L.hears)
             (stage_of self.old.state.sessions self.old.state.names self.old.listener) kept.old
             (lines_at line.entry.number (map string_bytes texts.now.items))
             (stage_of self.new.state.sessions self.new.state.names self.new.listener) kept.new) }
-        ensures manager { D.manager self.new.state.desk ≡ D.manager self.old.state.desk }
     {
         'texts: for text in texts {
             let next = ReadLine {
@@ -212,11 +202,9 @@ impl<T: PartTable, B: Board<T>, D: ScriptDesk<OwnSession<T, B>>, L: Listener> Sc
         line: ReadLine<'_>,
         turns: &Vec<Turn>,
     ) -> Result<(), Fault>
-        requires seats { SeatsAre B.seat D.seat }
         ensures named { OnOk result (NamesTables (play_of B.seat B.view B.stack D.again D.database_of D.entries L.hears)
             (stage_of self.old.state.sessions self.old.state.names self.old.listener) line.entry.number (tables_in turns.now.items)
             (stage_of self.new.state.sessions self.new.state.names self.new.listener)) }
-        ensures manager { D.manager self.new.state.desk ≡ D.manager self.old.state.desk }
     {
         'turns: for turn in turns {
             self.name_each(rt, alloc, line, &turn.named)?;
@@ -232,11 +220,9 @@ impl<T: PartTable, B: Board<T>, D: ScriptDesk<OwnSession<T, B>>, L: Listener> Sc
         line: ReadLine<'_>,
         tables: &Vec<Table>,
     ) -> Result<(), Fault>
-        requires seats { SeatsAre B.seat D.seat }
         ensures named { OnOk result (NamesTables (play_of B.seat B.view B.stack D.again D.database_of D.entries L.hears)
             (stage_of self.old.state.sessions self.old.state.names self.old.listener) line.entry.number tables.now.items
             (stage_of self.new.state.sessions self.new.state.names self.new.listener)) }
-        ensures manager { D.manager self.new.state.desk ≡ D.manager self.old.state.desk }
     {
         'tables: for table in tables {
             self.name_table(rt, alloc, line, table)?;
@@ -253,11 +239,9 @@ impl<T: PartTable, B: Board<T>, D: ScriptDesk<OwnSession<T, B>>, L: Listener> Sc
         line: ReadLine<'_>,
         table: &Table,
     ) -> Result<(), Fault>
-        requires seats { SeatsAre B.seat D.seat }
         ensures named { OnOk result (NamesTable (play_of B.seat B.view B.stack D.again D.database_of D.entries L.hears)
             (stage_of self.old.state.sessions self.old.state.names self.old.listener) line.entry.number table.now
             (stage_of self.new.state.sessions self.new.state.names self.new.listener)) }
-        ensures manager { D.manager self.new.state.desk ≡ D.manager self.old.state.desk }
     {
         if may_be_named(&self.state.names.objects, table) {
             self.run_naming(rt, alloc, line, table)
@@ -274,12 +258,10 @@ impl<T: PartTable, B: Board<T>, D: ScriptDesk<OwnSession<T, B>>, L: Listener> Sc
         line: ReadLine<'_>,
         table: &Table,
     ) -> Result<(), Fault>
-        requires seats { SeatsAre B.seat D.seat }
         ensures ran { OnOk result (Hears L.hears self.old.listener self.new.listener (λ heard.
             PlaysLine B.seat B.view B.stack D.again D.database_of D.entries line.entry.number
             (record { sessions = self.old.state.sessions; names = self.old.state.names }) (name_line table.now) heard
             (record { sessions = self.new.state.sessions; names = self.new.state.names }))) }
-        ensures manager { D.manager self.new.state.desk ≡ D.manager self.old.state.desk }
     {
         let name = table.name.as_str();
         let tag = table.tag;
@@ -292,7 +274,6 @@ impl<T: PartTable, B: Board<T>, D: ScriptDesk<OwnSession<T, B>>, L: Listener> Sc
     /// The fault of the line of the number `number`, whose SQL can't be played. The listener hears why,
     /// `unplayed`, in place of the line.
     pub(crate) fn refuse(&mut self, number: u32, unplayed: Unplayed) -> Fault
-        ensures manager { D.manager self.new.state.desk ≡ D.manager self.old.state.desk }
     {
         let why = match unplayed {
             Unplayed::Told(why) => why,

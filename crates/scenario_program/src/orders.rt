@@ -1,7 +1,6 @@
 //! The orders of a script, played against lock managers that are emptied between two orders.
 
 ghost use Rattle.std.specs.Prelude.{◌≡◌};
-ghost use Rattle.lock_manager.specs.Crews.{SeatsAre};
 ghost use Rattle.scenario.specs.Sizes.{IsForManager};
 
 use crate::hints::{Reader, hint_text};
@@ -54,8 +53,6 @@ fn play_turns<T: PartTable, B: Board<T>, D: ScriptDesk<OwnSession<T, B>>, H: Wai
     rt: &H,
     scene: &mut Scene<T, B, D, Spectator<'_, '_>>,
 ) -> Result<(), Fault>
-    requires seats { SeatsAre B.seat D.seat }
-    ensures manager { D.manager scene.new.state.desk ≡ D.manager scene.old.state.desk }
 {
     'turns: for _ in 0..u64::MAX {
         let turn = scene.listener.orders.next_instruction();
@@ -74,8 +71,6 @@ fn play_line<T: PartTable, B: Board<T>, D: ScriptDesk<OwnSession<T, B>>, H: Wait
     scene: &mut Scene<T, B, D, Spectator<'_, '_>>,
     line: &str,
 ) -> Result<(), Fault>
-    requires seats { SeatsAre B.seat D.seat }
-    ensures manager { D.manager scene.new.state.desk ≡ D.manager scene.old.state.desk }
 {
     let state = &scene.state;
     let command = parse(line, &state.sessions, &state.names.objects).map_err(|what| Fault::BadLine {
@@ -93,8 +88,6 @@ fn let_all_go<T: PartTable, B: Board<T>, D: ScriptDesk<OwnSession<T, B>>, H: Wai
     rt: &H,
     state: &mut ScriptState<T, B, D>,
 )
-    requires seats { SeatsAre B.seat D.seat }
-    ensures manager { D.manager state.new.desk ≡ D.manager state.old.desk }
 {
     state.cancel_all(rt);
     'sessions: for place in 0..state.sessions.resting.len() {

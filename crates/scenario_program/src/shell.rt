@@ -1,6 +1,5 @@
 //! A shell: the lines of a script as somebody types them, with help, and with what is wrong with a bad one.
 ghost use Rattle.std.specs.Prelude.{◌≡◌, ◌≢◌, ◌⊎◌, ℕ, List, IfErr, IfOk, OnOk, Ok, false, true};
-ghost use Rattle.lock_manager.specs.Crews.{SeatsAre};
 ghost use Rattle.scenario.specs.Acts.{UnlessUnheard};
 ghost use Rattle.scenario.specs.Heard.{Hears, HearsAll, Helped, IsUnheard};
 ghost use Rattle.scenario.specs.Scripts.{words_in};
@@ -169,11 +168,9 @@ fn converse<
     H: Wait,
     R: Read + Drop,
 >(rt: &H, scene: &mut Scene<T, B, D, L>, reader: R, shell: Shell) -> Result<(), Fault>
-    requires seats { SeatsAre B.seat D.seat }
     ensures heard { IsTypedHeard B.seat B.view B.stack D.again D.database_of D.entries L.hears shell.is_terminal (R.remaining reader)
         (record { sessions = scene.old.state.sessions; names = scene.old.state.names }) scene.old.listener result
         scene.new.listener }
-    ensures manager { D.manager scene.new.state.desk ≡ D.manager scene.old.state.desk }
 {
     let mut lines = LineReader::new(reader);
     prompt(&mut scene.listener, shell, GREETING)?;
@@ -229,14 +226,12 @@ fn answer<T: PartTable, B: Board<T>, D: ScriptDesk<OwnSession<T, B>>, L: Listene
     line: &str,
     shell: Shell,
 ) -> Result<bool, Fault>
-    requires seats { SeatsAre B.seat D.seat }
     ensures answered { result ≡ Ok false → (¬ Leaves (words_in line.now))
         × Hears L.hears scene.old.listener scene.new.listener (λ heard. AnswersLine B.seat B.view B.stack D.again D.database_of D.entries
         (record { sessions = scene.old.state.sessions; names = scene.old.state.names }) line.now heard
         (record { sessions = scene.new.state.sessions; names = scene.new.state.names })) }
     ensures leaves { result ≡ Ok true → Leaves (words_in line.now) × (scene.new.listener ≡ scene.old.listener) }
     ensures unheard { IfErr result IsUnheard }
-    ensures manager { D.manager scene.new.state.desk ≡ D.manager scene.old.state.desk }
 {
     match shell.understand(line) {
         Ok(Typed::End) => Ok(true),
@@ -259,13 +254,11 @@ fn answer_line<T: PartTable, B: Board<T>, D: ScriptDesk<OwnSession<T, B>>, L: Li
     line: &str,
     shell: Shell,
 ) -> Result<(), Fault>
-    requires seats { SeatsAre B.seat D.seat }
     ensures answered { OnOk result (Hears L.hears scene.old.listener scene.new.listener (λ heard.
         AnswersLine B.seat B.view B.stack D.again D.database_of D.entries
         (record { sessions = scene.old.state.sessions; names = scene.old.state.names }) line.now heard
         (record { sessions = scene.new.state.sessions; names = scene.new.state.names }))) }
     ensures unheard { IfErr result IsUnheard }
-    ensures manager { D.manager scene.new.state.desk ≡ D.manager scene.old.state.desk }
 {
     let state = &scene.state;
     match parse(line, &state.sessions, &state.names.objects) {

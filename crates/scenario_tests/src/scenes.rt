@@ -4,11 +4,14 @@ ghost use Rattle.lock_manager.specs.Crews.{SeatsAre};
 ghost use Rattle.modes_core.specs.Sessions.{usual_sessions};
 
 use crate::scripts::ALL_SESSIONS;
+use connections::ManagerName;
 use lock_manager::{Desk, Manager, ManagerDesk, OwnSession};
+use lock_script::OpenSessions;
 use lock_table::PartTable;
 use scenario::{Manner, OnceDesk, Output, Scene, Script, ScriptState};
 use shared_rule::Board;
 use std::alloc::Global;
+use std::marker::Brand;
 use std::process::Abort;
 use std::sync::Wait;
 use std::test::Fail;
@@ -36,7 +39,7 @@ const PRINTED: &str = "b: session 0 database 5\na: session 1 database 5\nc: sess
     a: session 4 database 7\nrows 0\na: granted\n";
 
 /// Plays the scripts over one `ScriptState`, whose sessions `desk` opens, and prints on `output`.
-fn play_in_turn<T: PartTable, B: Board<T>, D: Desk<OwnSession<T, B>> + Drop, R: Abort + Wait>(
+fn play_over<T: PartTable, B: Board<T>, D: Desk<OwnSession<T, B>> + Drop, R: Abort + Wait>(
     rt: &R,
     alloc: Global,
     desk: D,
@@ -47,7 +50,26 @@ fn play_in_turn<T: PartTable, B: Board<T>, D: Desk<OwnSession<T, B>> + Drop, R: 
     requires none_live { D.live desk ≡ 0 }
     requires few { (D.manager desk).limit ≤ usual_sessions }
 {
-    let state = ScriptState::new(alloc, OnceDesk { desk })?;
+    play_in_turn::<T, B, D, Brand, R>(rt, alloc, desk, output)
+}
+
+/// Plays the scripts as `play_over` does, with sessions of the manager that `M` names.
+fn play_in_turn<
+    T: PartTable,
+    B: Board<T>,
+    D: Desk<OwnSession<T, B>> + Drop,
+    M: ManagerName,
+    R: Abort + Wait,
+>(rt: &R, alloc: Global, desk: D, output: &mut Vec<u8>) -> Result<(), Fail>
+    requires is { D.manager desk ≡ M.manager }
+    requires seats { SeatsAre B.seat D.seat }
+    requires none_issued { D.issued desk ≡ 0 }
+    requires none_live { D.live desk ≡ 0 }
+    requires few { M.manager.limit ≤ usual_sessions }
+{
+    let sessions = OpenSessions::new(alloc)?;
+    let desk = OnceDesk::<OwnSession<T, B>, D, M>::new(desk);
+    let state = ScriptState::new(alloc, desk, sessions);
     let listener = Output::new(output);
     let mut scene = Scene { state, listener };
     'turns: for turn in &IN_TURN {
@@ -59,11 +81,12 @@ fn play_in_turn<T: PartTable, B: Board<T>, D: Desk<OwnSession<T, B>> + Drop, R: 
     }
     let Scene { state, listener: _ } = scene;
     let ScriptState {
-        desk: _,
+        desk,
         names: _,
         sessions,
     } = state;
     sessions.finish();
+    let _ = desk.into_desk();
     Ok(())
 }
 
@@ -73,7 +96,7 @@ fn an_end_closes_every_session(rt: HostRuntime) -> Result<(), Fail> {
     let mut output = Vec::new(alloc);
     let (manager, opener) = Manager::new(alloc, ALL_SESSIONS)?;
     let desk = ManagerDesk::new(&manager, opener);
-    play_in_turn(&rt, alloc, desk, &mut output)?;
+    play_over(&rt, alloc, desk, &mut output)?;
     assert_eq!(rt; output.as_slice(), PRINTED.as_bytes());
     Ok(())
 }

@@ -12,11 +12,8 @@ kept-known a b manager issued e known = subst (λ (seated : Seated). IsKnown sea
 
 -- where more numbers were given out
 pub known-later :
-    (seated : Seated) (manager now : ManagerView) (issued later : ℕ) → now ≡ manager → issued ≤ later → IsKnown seated manager issued → IsKnown seated now later
-known-later seated manager now issued later e more known = record {
-  table = known.table ∙ ap (λ (m : ManagerView). m.table) (sym e);
-  number = omega (arith, more, known.number);
-}
+    (seated : Seated) (manager : ManagerView) (issued later : ℕ) → issued ≤ later → IsKnown seated manager issued → IsKnown seated manager later
+known-later seated manager issued later more known = record { table = known.table; number = omega (arith, more, known.number) }
 
 pub issued-grows : (again : Bool) (limit number before after : ℕ) → IsNumbered again limit number before after → before ≤ after
 issued-grows again limit number before after (inl (first, few, e)) = omega (arith, e)

@@ -73,7 +73,6 @@ lines-preserved g c = elim c.match-next_line.branch [
   | in-Ok-Some+in_ok-answer-in-Ok-Some+else-branch w ↦
       (let answered = w.answer.ensures.answered (search rules) in
       rw w.scene-is (record {
-        manager = w.answer.ensures.manager ∙ c.lines.invariant.manager;
         so_far = typed-next g.B.Board.seat g.B.Board.view g.B.Board.stack g.D.ScriptDesk.again g.D.ScriptDesk.database_of g.D.ScriptDesk.entries c.args.shell.is_terminal g.L.Listener.hears (g.R.Read.remaining c.args.reader)
             (record { sessions = c.args.scene.now.state.sessions; names = c.args.scene.now.state.names }) c.args.scene.now.listener
             c.lines.lines.number c.next_line.new.self.number c.lines.lines.source.left c.next_line.new.self.source.left
@@ -92,7 +91,6 @@ lines-preserved g c = elim c.match-next_line.branch [
       c.lines.lines.number c.next_line.new.self.number passed.0 c.next_line.result w.in-Err.fault c.lines.invariant.so_far.are w.in-Err.is passed.1
       c.next_line.ensures.reads c.next_line.ensures.counted c.next_line.ensures.passed_over in
       rw w.scene-is (record {
-        manager = c.lines.invariant.manager;
         so_far = typed-next g.B.Board.seat g.B.Board.view g.B.Board.stack g.D.ScriptDesk.again g.D.ScriptDesk.database_of g.D.ScriptDesk.entries c.args.shell.is_terminal g.L.Listener.hears (g.R.Read.remaining c.args.reader)
             (record { sessions = c.args.scene.now.state.sessions; names = c.args.scene.now.state.names }) c.args.scene.now.listener
             c.lines.lines.number c.next_line.new.self.number c.lines.lines.source.left c.next_line.new.self.source.left

@@ -9,7 +9,7 @@ pub close-requires-clause-own : goal.close-requires-clause-own
 close-requires-clause-own g c = ap (λ (seat : Seated). seat.table) (sym (c.args.self.now.seats c.args.session)) ∙ c.requires.own
 
 pub invariant_of-self-clause-own : goal.invariant_of-self-clause-own
-invariant_of-self-clause-own g c = rw c.close.ensures.manager c.close.ensures.free
+invariant_of-self-clause-own g c = rw c.args.self.now.is at c.close.ensures.free
 
 pub invariant_of-self-clause-known : goal.invariant_of-self-clause-known
 invariant_of-self-clause-known g c =
@@ -44,7 +44,7 @@ invariant_of-self-clause-issued g c =
     let number = ap (λ (seat : Seated). seat.number) (c.args.self.now.seats c.args.session) in
     let room = has-room c.args.self.now.pool (g.B.Board.seat c.args.session.board).number _ _ _ c.requires.some c.args.self.now.none_closed
     c.args.self.now.issued c.args.self.now.room (omega (arith, number, c.requires.known)) in
-    subst (λ desk. g.D.Desk.issued desk ≤ (g.D.Desk.manager desk).limit) (sym (c.close.ensures.taken room).1) c.args.self.now.issued
+    subst (λ desk. g.D.Desk.issued desk ≤ g.M.ManagerName.manager.limit) (sym (c.close.ensures.taken room).1) c.args.self.now.issued
 
 pub invariant_of-self-clause-room : goal.invariant_of-self-clause-room
 invariant_of-self-clause-room g c =
@@ -53,8 +53,7 @@ invariant_of-self-clause-room g c =
     c.args.self.now.issued c.args.self.now.room (omega (arith, number, c.requires.known)) in
     let taken = c.close.ensures.taken room in
     let lives = ap (λ (lives : List ℕ). length lives) taken.0.lives ∙ length-set c.args.self.now.pool.lives _ _ in
-    let limit = ap (λ desk. (g.D.Desk.manager desk).limit) taken.1 in
-    omega (arith, lives, limit, c.args.self.now.room)
+    omega (arith, lives, c.args.self.now.room)
 
 pub returns-clause-live : goal.returns-clause-live
 returns-clause-live g c =

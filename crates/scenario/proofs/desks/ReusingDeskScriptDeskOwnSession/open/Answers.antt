@@ -8,9 +8,10 @@ invariant_of-self g c =
     let lent = c.in-Some.ensures.lent in
     let fewer = one-less c.args.self.now.pool.free c.lend.new.self.free lent.place lent.lent lent.there (ap (λ pool. pool.free) lent.pool) in
     record {
+      is = c.args.self.now.is;
       seats = c.args.self.now.seats;
       sees = c.args.self.now.sees;
-      own = left-so (λ session. (g.B.Board.seat session.board).table ≡ (g.D.Desk.manager c.args.self.now.desk).table)
+      own = left-so (λ session. (g.B.Board.seat session.board).table ≡ g.M.ManagerName.manager.table)
           c.args.self.now.pool.free lent.place lent.lent c.lend.new.self.free lent.there (ap (λ pool. pool.free) lent.pool) c.args.self.now.own;
       known = left-so (λ session. (g.B.Board.seat session.board).number < g.D.Desk.issued c.args.self.now.desk)
           c.args.self.now.pool.free lent.place lent.lent c.lend.new.self.free lent.there (ap (λ pool. pool.free) lent.pool) c.args.self.now.known;
@@ -23,7 +24,7 @@ invariant_of-self g c =
 pub returns-in-Some-clause-own : goal.returns-in-Some-clause-own
 returns-in-Some-clause-own g c =
     let lent = c.in-Some.ensures.lent in
-    let its = lent-so (λ session. (g.B.Board.seat session.board).table ≡ (g.D.Desk.manager c.args.self.now.desk).table)
+    let its = lent-so (λ session. (g.B.Board.seat session.board).table ≡ g.M.ManagerName.manager.table)
     c.args.self.now.pool.free lent.place lent.lent lent.there c.args.self.now.own in
     ap (λ (seat : Seated). seat.table) (c.args.self.now.seats c.in-Some.session ∙ lent.next.seat_) ∙ its
 

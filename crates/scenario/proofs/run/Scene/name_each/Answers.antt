@@ -5,7 +5,6 @@ use Rattle.scenario.proofs.run.Scene.name_each.Goals as goal
 
 pub tables-preserved : goal.tables-preserved
 tables-preserved g c = record {
-  manager = c.name_table.ensures.manager ∙ c.tables.invariant.manager;
   named = names-item (play_of g.B.Board.seat g.B.Board.view g.B.Board.stack g.D.ScriptDesk.again g.D.ScriptDesk.database_of g.D.ScriptDesk.entries g.L.Listener.hears)
       (stage_of c.args.self.now.state.sessions c.args.self.now.state.names c.args.self.now.listener)
       (stage_of c.tables.self.state.sessions c.tables.self.state.names c.tables.self.listener)

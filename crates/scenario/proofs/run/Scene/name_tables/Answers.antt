@@ -5,7 +5,6 @@ use Rattle.scenario.proofs.run.Scene.name_tables.Goals as goal
 
 pub turns-preserved : goal.turns-preserved
 turns-preserved g c = record {
-  manager = c.name_each.ensures.manager ∙ c.turns.invariant.manager;
   named = names-turn (play_of g.B.Board.seat g.B.Board.view g.B.Board.stack g.D.ScriptDesk.again g.D.ScriptDesk.database_of g.D.ScriptDesk.entries g.L.Listener.hears)
       (stage_of c.args.self.now.state.sessions c.args.self.now.state.names c.args.self.now.listener)
       (stage_of c.turns.self.state.sessions c.turns.self.state.names c.turns.self.listener)

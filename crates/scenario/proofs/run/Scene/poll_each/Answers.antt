@@ -10,7 +10,6 @@ places-preserved-then-branch g c =
     (record { sessions = c.poll.new.self.state.sessions; names = c.poll.new.self.state.names }) c.poll.new.self.listener) c.if-branch.true c.in_ok-poll.ensures.polled in
     let less : length c.poll.new.self.state.sessions.waiting < length c.places.self.state.sessions.waiting = search rules in
     record {
-      manager = c.poll.ensures.manager ∙ c.places.invariant.manager;
       no_more = omega (arith, c.poll.ensures.no_more, c.places.invariant.no_more);
       fewer = λ _. omega (arith, less, c.places.invariant.no_more);
       names = heard.3 ∙ c.places.invariant.names;
@@ -24,7 +23,6 @@ places-preserved g c =
     subst (λ (went : Bool). IsPollHeard g.B.Board.seat g.B.Board.view g.B.Board.stack g.L.Listener.hears (record { sessions = c.places.self.state.sessions; names = c.places.self.state.names }) c.places.self.listener c.places.place went
     (record { sessions = c.poll.new.self.state.sessions; names = c.poll.new.self.state.names }) c.poll.new.self.listener) c.if-branch.false c.in_ok-poll.ensures.polled in
     record {
-      manager = c.poll.ensures.manager ∙ c.places.invariant.manager;
       no_more = omega (arith, c.poll.ensures.no_more, c.places.invariant.no_more);
       fewer = λ e. omega (arith, c.poll.ensures.no_more, c.places.invariant.fewer e);
       names = heard.1 ∙ c.places.invariant.names;

@@ -4,7 +4,6 @@ use Rattle.scenario.proofs.run.Scene.poll_each.Given as goal
 
 abbrev pub invariant-places : goal.invariant-places
 invariant-places g l = record {
-  manager : g.D.ScriptDesk.manager l.self.state.desk ≡ g.D.ScriptDesk.manager l.fn.self.state.desk;
   no_more : length l.self.state.sessions.waiting ≤ length l.fn.self.state.sessions.waiting;
   fewer : l.went_on ≡ true → length l.self.state.sessions.waiting < length l.fn.self.state.sessions.waiting;
   names : l.self.state.names ≡ l.fn.self.state.names;

@@ -12,7 +12,6 @@ pub lines-preserved : goal.lines-preserved
 lines-preserved g c =
     let done = c.in_ok-hear_line.ensures.done in
     record {
-      manager = c.hear_line.ensures.manager ∙ c.lines.invariant.manager;
       silent = λ speaks. c.hear_line.ensures.silent (c.lines.invariant.silent speaks);
       so_far = done-more (play_of g.B.Board.seat g.B.Board.view g.B.Board.stack g.D.ScriptDesk.again g.D.ScriptDesk.database_of g.D.ScriptDesk.entries g.L.Listener.hears)
           c.args.keeping.speaks c.args.keeping.keeps (g.R.Read.remaining c.args.reader)

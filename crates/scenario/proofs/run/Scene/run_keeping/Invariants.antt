@@ -5,7 +5,6 @@ use Rattle.scenario.proofs.run.Scene.run_keeping.Given as goal
 
 abbrev pub invariant-lines : goal.invariant-lines
 invariant-lines g l = record {
-  manager : g.D.ScriptDesk.manager l.self.state.desk ≡ g.D.ScriptDesk.manager l.fn.self.state.desk;
   silent : l.fn.keeping.speaks ≡ false → l.script.script ≡ None;
   so_far : HaveDone (play_of g.B.Board.seat g.B.Board.view g.B.Board.stack g.D.ScriptDesk.again g.D.ScriptDesk.database_of g.D.ScriptDesk.entries g.L.Listener.hears) l.fn.keeping.speaks l.fn.keeping.keeps (g.R.Read.remaining l.fn.reader)
       (stage_of l.fn.self.state.sessions l.fn.self.state.names l.fn.self.listener) l.lines.number l.lines.source.left

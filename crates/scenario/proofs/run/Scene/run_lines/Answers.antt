@@ -13,7 +13,6 @@ returns-in_err-line-clause-played g c =
 
 pub lines-preserved : goal.lines-preserved
 lines-preserved g c = record {
-  manager = c.run_line.ensures.manager ∙ c.lines.invariant.manager;
   so_far = have-more g.B.Board.seat g.B.Board.view g.B.Board.stack g.D.ScriptDesk.again g.D.ScriptDesk.database_of g.D.ScriptDesk.entries g.L.Listener.hears (g.R.Read.remaining c.args.reader) (record { sessions = c.args.self.now.state.sessions; names = c.args.self.now.state.names }) c.args.self.now.listener c.lines.lines.number c.next_line.new.self.number
       c.lines.lines.source.left c.next_line.new.self.source.left (record { sessions = c.lines.self.state.sessions; names = c.lines.self.state.names }) (record { sessions = c.run_line.new.self.state.sessions; names = c.run_line.new.self.state.names }) c.lines.self.listener c.run_line.new.self.listener c.in-Some.line
       c.lines.invariant.so_far (rw c.in-Some.is at c.in_ok-line.ensures.reads) c.in_ok-line.ensures.rest (rw c.in-Some.is at c.in_ok-line.ensures.number)

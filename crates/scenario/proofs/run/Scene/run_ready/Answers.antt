@@ -10,7 +10,6 @@ use Rattle.scenario.proofs.run.Scene.run_ready.Goals as goal
 
 pub ready-preserved : goal.ready-preserved
 ready-preserved g c = record {
-  manager = c.run_line.ensures.manager ∙ c.ready.invariant.manager;
   ran = have-run-more (play_of g.B.Board.seat g.B.Board.view g.B.Board.stack g.D.ScriptDesk.again g.D.ScriptDesk.database_of g.D.ScriptDesk.entries g.L.Listener.hears)
       (stage_of c.args.self.now.state.sessions c.args.self.now.state.names c.args.self.now.listener) (stage_of c.ready.self.state.sessions c.ready.self.state.names c.ready.self.listener)
       (stage_of c.run_line.new.self.state.sessions c.run_line.new.self.state.names c.run_line.new.self.listener) c.args.kept.now c.ready.kept c.take_ready.new.self c.in-Some.field-0-0.bytes (said_by c.in-Some.line)

@@ -5,7 +5,6 @@ use Rattle.scenario.proofs.run.Scene.take_in_each.Goals as goal
 
 pub texts-preserved : goal.texts-preserved
 texts-preserved g c = record {
-  manager = c.take_in.ensures.manager ∙ c.texts.invariant.manager;
   taken = takes-item (play_of g.B.Board.seat g.B.Board.view g.B.Board.stack g.D.ScriptDesk.again g.D.ScriptDesk.database_of g.D.ScriptDesk.entries g.L.Listener.hears)
       (stage_of c.args.self.now.state.sessions c.args.self.now.state.names c.args.self.now.listener)
       (stage_of c.texts.self.state.sessions c.texts.self.state.names c.texts.self.listener)

@@ -5,7 +5,6 @@ use Rattle.scenario.proofs.run.Scene.take_in_each.Given as goal
 
 abbrev pub invariant-texts : goal.invariant-texts
 invariant-texts g l = record {
-  manager : g.D.ScriptDesk.manager l.self.state.desk ≡ g.D.ScriptDesk.manager l.fn.self.state.desk;
   taken : TakesInEach (play_of g.B.Board.seat g.B.Board.view g.B.Board.stack g.D.ScriptDesk.again g.D.ScriptDesk.database_of g.D.ScriptDesk.entries g.L.Listener.hears)
       (stage_of l.fn.self.state.sessions l.fn.self.state.names l.fn.self.listener) l.fn.kept (lines_at l.fn.line.number (map string_bytes (take l.text-index l.text-items)))
       (stage_of l.self.state.sessions l.self.state.names l.self.listener) l.kept;

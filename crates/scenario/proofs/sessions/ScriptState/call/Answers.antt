@@ -12,7 +12,7 @@ invariant_of-self-clause-counted g c =
 pub invariant_of-self-clause-resting : goal.invariant_of-self-clause-resting
 invariant_of-self-clause-resting g c =
     All-called c.args.self.now.sessions.resting c.args.caller.place c.session_mut-session.result.now c.make.new.session c.requires.place c.session_mut-session.ensures.value
-    (λ session. IsKnown (g.B.Board.seat session.board) (g.D.ScriptDesk.manager c.args.self.now.desk) (g.D.ScriptDesk.issued c.args.self.now.desk)) c.args.self.now.resting
+    (λ session. IsKnown (g.B.Board.seat session.board) g.D.ScriptDesk.manager (g.D.ScriptDesk.issued c.args.self.now.desk)) c.args.self.now.resting
     (λ h. kept-known _ _ _ _ c.make.ensures.seat h)
 
 pub returns-clause-called : goal.returns-clause-called

@@ -12,10 +12,10 @@ invariant_of-self-clause-counted g c =
 
 pub invariant_of-self-clause-resting : goal.invariant_of-self-clause-resting
 invariant_of-self-clause-resting g c =
-    All-put c.waits.self.sessions.resting c.put.new.self (record { name = c.in-Some.first.name; session = c.cancel-session.result.0 }) c.put.ensures (λ one. IsKnown (g.B.Board.seat one.session.board) (g.D.ScriptDesk.manager c.waits.self.desk) (g.D.ScriptDesk.issued c.waits.self.desk)) c.waits.self.resting
+    All-put c.waits.self.sessions.resting c.put.new.self (record { name = c.in-Some.first.name; session = c.cancel-session.result.0 }) c.put.ensures (λ one. IsKnown (g.B.Board.seat one.session.board) g.D.ScriptDesk.manager (g.D.ScriptDesk.issued c.waits.self.desk)) c.waits.self.resting
     (kept-known _ _ _ _ c.cancel-session.ensures.seat
-    (All-first c.waits.self.sessions.waiting c.take_first.new.self c.in-Some.first c.in-Some.ensures.first (λ one. IsKnown (g.B.Board.seat one.session.board) (g.D.ScriptDesk.manager c.waits.self.desk) (g.D.ScriptDesk.issued c.waits.self.desk)) c.waits.self.waiting))
+    (All-first c.waits.self.sessions.waiting c.take_first.new.self c.in-Some.first c.in-Some.ensures.first (λ one. IsKnown (g.B.Board.seat one.session.board) g.D.ScriptDesk.manager (g.D.ScriptDesk.issued c.waits.self.desk)) c.waits.self.waiting))
 
 pub invariant_of-self-clause-waiting : goal.invariant_of-self-clause-waiting
 invariant_of-self-clause-waiting g c =
-    All-rest c.waits.self.sessions.waiting c.take_first.new.self c.in-Some.first c.in-Some.ensures.first (λ one. IsKnown (g.B.Board.seat one.session.board) (g.D.ScriptDesk.manager c.waits.self.desk) (g.D.ScriptDesk.issued c.waits.self.desk)) c.waits.self.waiting
+    All-rest c.waits.self.sessions.waiting c.take_first.new.self c.in-Some.first c.in-Some.ensures.first (λ one. IsKnown (g.B.Board.seat one.session.board) g.D.ScriptDesk.manager (g.D.ScriptDesk.issued c.waits.self.desk)) c.waits.self.waiting

@@ -6,8 +6,8 @@ use Rattle.scenario.proofs.sessions.ScriptState.close.Goals as goal
 
 pub close-requires : goal.close-requires
 close-requires g c =
-    let known = kept-known _ _ _ _ (c.requires.seats c.take-session.result.session)
-    (taken (λ one. IsKnown (g.B.Board.seat one.session.board) (g.D.ScriptDesk.manager c.args.self.now.desk) (g.D.ScriptDesk.issued c.args.self.now.desk)) c.args.self.now.sessions.resting c.args.caller.place
+    let known = kept-known _ _ _ _ (c.args.self.now.seats c.take-session.result.session)
+    (taken (λ one. IsKnown (g.B.Board.seat one.session.board) g.D.ScriptDesk.manager (g.D.ScriptDesk.issued c.args.self.now.desk)) c.args.self.now.sessions.resting c.args.caller.place
     c.take-session.result c.requires.place c.args.self.now.resting c.take-session.ensures.taken) in
     let left = length-left c.args.self.now.sessions.resting c.take-session.new.self c.args.caller.place c.requires.place c.take-session.ensures.left in
     record { own = known.table; known = known.number; some = omega (arith, left, c.args.self.now.counted) }
@@ -19,9 +19,9 @@ invariant_of-self-clause-counted g c =
 
 pub invariant_of-self-clause-resting : goal.invariant_of-self-clause-resting
 invariant_of-self-clause-resting g c =
-    rw (c.close.ensures.manager, c.close.ensures.issued)
+    rw c.close.ensures.issued
     (All-left c.args.self.now.sessions.resting c.take-session.new.self c.args.caller.place c.requires.place c.take-session.ensures.left
-    (λ one. IsKnown (g.B.Board.seat one.session.board) (g.D.ScriptDesk.manager c.args.self.now.desk) (g.D.ScriptDesk.issued c.args.self.now.desk)) c.args.self.now.resting)
+    (λ one. IsKnown (g.B.Board.seat one.session.board) g.D.ScriptDesk.manager (g.D.ScriptDesk.issued c.args.self.now.desk)) c.args.self.now.resting)
 
 pub invariant_of-self-clause-waiting : goal.invariant_of-self-clause-waiting
-invariant_of-self-clause-waiting g c = rw (c.close.ensures.manager, c.close.ensures.issued) c.args.self.now.waiting
+invariant_of-self-clause-waiting g c = rw c.close.ensures.issued c.args.self.now.waiting

@@ -6,9 +6,9 @@ use Rattle.scenario.proofs.sessions.ScriptState.close_all.Goals as goal
 
 pub close-requires : goal.close-requires
 close-requires g c =
-    let known = kept-known _ _ _ _ (c.requires.seats c.in-Some.first.session)
+    let known = kept-known _ _ _ _ (c.sessions.self.seats c.in-Some.first.session)
     (All-first c.sessions.self.sessions.resting c.take_first.new.self c.in-Some.first c.in-Some.ensures.first
-    (λ one. IsKnown (g.B.Board.seat one.session.board) (g.D.ScriptDesk.manager c.sessions.self.desk) (g.D.ScriptDesk.issued c.sessions.self.desk)) c.sessions.self.resting) in
+    (λ one. IsKnown (g.B.Board.seat one.session.board) g.D.ScriptDesk.manager (g.D.ScriptDesk.issued c.sessions.self.desk)) c.sessions.self.resting) in
     let left = length-rest c.sessions.self.sessions.resting c.take_first.new.self c.in-Some.first c.in-Some.ensures.first in
     record { own = known.table; known = known.number; some = omega (arith, left, c.sessions.self.counted) }
 
@@ -19,9 +19,9 @@ invariant_of-self-clause-counted g c =
 
 pub invariant_of-self-clause-resting : goal.invariant_of-self-clause-resting
 invariant_of-self-clause-resting g c =
-    rw (c.close.ensures.manager, c.close.ensures.issued)
+    rw c.close.ensures.issued
     (All-rest c.sessions.self.sessions.resting c.take_first.new.self c.in-Some.first c.in-Some.ensures.first
-    (λ one. IsKnown (g.B.Board.seat one.session.board) (g.D.ScriptDesk.manager c.sessions.self.desk) (g.D.ScriptDesk.issued c.sessions.self.desk)) c.sessions.self.resting)
+    (λ one. IsKnown (g.B.Board.seat one.session.board) g.D.ScriptDesk.manager (g.D.ScriptDesk.issued c.sessions.self.desk)) c.sessions.self.resting)
 
 pub invariant_of-self-clause-waiting : goal.invariant_of-self-clause-waiting
-invariant_of-self-clause-waiting g c = rw (c.close.ensures.manager, c.close.ensures.issued) c.sessions.self.waiting
+invariant_of-self-clause-waiting g c = rw c.close.ensures.issued c.sessions.self.waiting

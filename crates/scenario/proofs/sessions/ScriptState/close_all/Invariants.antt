@@ -3,7 +3,6 @@ use Rattle.scenario.proofs.sessions.ScriptState.close_all.Given as goal
 
 abbrev pub invariant-sessions : goal.invariant-sessions
 invariant-sessions g l = record {
-  manager : g.D.ScriptDesk.manager l.self.desk ≡ g.D.ScriptDesk.manager l.fn.self.desk;
   none_waits : l.self.sessions.waiting ≡ [];
 }
 

@@ -3,7 +3,6 @@ use Rattle.scenario.proofs.sessions.ScriptState.last_picture.Given as goal
 
 abbrev pub invariant-waits : goal.invariant-waits
 invariant-waits g l = record {
-  manager : g.D.ScriptDesk.manager l.self.desk ≡ g.D.ScriptDesk.manager l.fn.self.desk;
   names : l.self.names ≡ l.fn.self.names;
   as_many : length l.self.sessions.waiting ≡ length l.fn.self.sessions.waiting;
 }

@@ -10,7 +10,7 @@ use Rattle.scenario.proofs.sessions.ScriptState.open.Goals as goal
 
 pub put-requires : goal.put-requires
 put-requires g c =
-    let number = c.id-session.ensures ∙ ap (λ (seat : Seated). seat.number) (sym (c.requires.seats c.in-Ok.opened)) in
+    let number = c.id-session.ensures ∙ ap (λ (seat : Seated). seat.number) (sym (c.args.self.now.seats c.in-Ok.opened)) in
     let next = number-within_names g.D.ScriptDesk.again _ _ _ _ c.in-Ok.ensures.numbered in
     let below = number-within g.D.ScriptDesk.again _ _ _ _ c.in-Ok.ensures.numbered in
     let issued = within-limit g.D.ScriptDesk.again _ _ _ _ c.in-Ok.ensures.numbered c.args.self.now.issued in
@@ -27,16 +27,15 @@ put-requires-in-Ok g c =
 
 pub invariant_of-self-clause-named : goal.invariant_of-self-clause-named
 invariant_of-self-clause-named g c =
-    let number = c.id-session.ensures ∙ ap (λ (seat : Seated). seat.number) (sym (c.requires.seats c.in-Ok.opened)) in
-    let numbered = subst (λ (n : ℕ). IsNumbered g.D.ScriptDesk.again (g.D.ScriptDesk.manager c.args.self.now.desk).limit n (g.D.ScriptDesk.issued c.args.self.now.desk) (g.D.ScriptDesk.issued c.open.new.self))
+    let number = c.id-session.ensures ∙ ap (λ (seat : Seated). seat.number) (sym (c.args.self.now.seats c.in-Ok.opened)) in
+    let numbered = subst (λ (n : ℕ). IsNumbered g.D.ScriptDesk.again g.D.ScriptDesk.manager.limit n (g.D.ScriptDesk.issued c.args.self.now.desk) (g.D.ScriptDesk.issued c.open.new.self))
     (sym number) c.in-Ok.ensures.numbered in
     length-named g.D.ScriptDesk.again _ c.id-session.result _ _ c.args.name c.args.self.now.names.sessions c.put.new.self numbered c.args.self.now.named
     c.put.ensures.next c.put.ensures.again
 
 pub invariant_of-self-clause-issued : goal.invariant_of-self-clause-issued
 invariant_of-self-clause-issued g c =
-    let issued = within-limit g.D.ScriptDesk.again _ _ _ _ c.in-Ok.ensures.numbered c.args.self.now.issued in
-    rw c.open.ensures.manager issued
+    within-limit g.D.ScriptDesk.again _ _ _ _ c.in-Ok.ensures.numbered c.args.self.now.issued
 
 pub invariant_of-self-clause-within : goal.invariant_of-self-clause-within
 invariant_of-self-clause-within g c = c.in-Ok.ensures.within c.args.self.now.within
@@ -48,29 +47,29 @@ invariant_of-self-clause-counted g c =
 
 pub invariant_of-self-clause-resting : goal.invariant_of-self-clause-resting
 invariant_of-self-clause-resting g c =
-    let seat = sym (c.requires.seats c.in-Ok.opened) in
-    let table = ap (λ (seat : Seated). seat.table) seat ∙ c.in-Ok.ensures.own ∙ sym (ap (λ manager. manager.table) c.open.ensures.manager) in
+    let seat = sym (c.args.self.now.seats c.in-Ok.opened) in
+    let table = ap (λ (seat : Seated). seat.table) seat ∙ c.in-Ok.ensures.own in
     let below = number-within g.D.ScriptDesk.again _ _ _ _ c.in-Ok.ensures.numbered in
     let number = ap (λ (seat : Seated). seat.number) seat in
     All-put c.args.self.now.sessions.resting c.put-in-Ok.new.self (record { name = c.args.name; session = c.in-Ok.opened }) c.put-in-Ok.ensures
-    (λ one. IsKnown (g.B.Board.seat one.session.board) (g.D.ScriptDesk.manager c.open.new.self) (g.D.ScriptDesk.issued c.open.new.self))
-    (All-weaker (λ one. IsKnown (g.B.Board.seat one.session.board) (g.D.ScriptDesk.manager c.args.self.now.desk) (g.D.ScriptDesk.issued c.args.self.now.desk))
-    (λ one. IsKnown (g.B.Board.seat one.session.board) (g.D.ScriptDesk.manager c.open.new.self) (g.D.ScriptDesk.issued c.open.new.self))
-    (λ one known. known-later _ _ _ _ _ c.open.ensures.manager (issued-grows g.D.ScriptDesk.again _ _ _ _ c.in-Ok.ensures.numbered) known)
+    (λ one. IsKnown (g.B.Board.seat one.session.board) g.D.ScriptDesk.manager (g.D.ScriptDesk.issued c.open.new.self))
+    (All-weaker (λ one. IsKnown (g.B.Board.seat one.session.board) g.D.ScriptDesk.manager (g.D.ScriptDesk.issued c.args.self.now.desk))
+    (λ one. IsKnown (g.B.Board.seat one.session.board) g.D.ScriptDesk.manager (g.D.ScriptDesk.issued c.open.new.self))
+    (λ one known. known-later _ _ _ _ (issued-grows g.D.ScriptDesk.again _ _ _ _ c.in-Ok.ensures.numbered) known)
     c.args.self.now.sessions.resting c.args.self.now.resting)
     (record { table = table; number = omega (arith, below, number) })
 
 pub invariant_of-self-clause-waiting : goal.invariant_of-self-clause-waiting
 invariant_of-self-clause-waiting g c =
-    All-weaker (λ one. IsKnown (g.B.Board.seat one.session.board) (g.D.ScriptDesk.manager c.args.self.now.desk) (g.D.ScriptDesk.issued c.args.self.now.desk))
-    (λ one. IsKnown (g.B.Board.seat one.session.board) (g.D.ScriptDesk.manager c.open.new.self) (g.D.ScriptDesk.issued c.open.new.self))
-    (λ one known. known-later _ _ _ _ _ c.open.ensures.manager (issued-grows g.D.ScriptDesk.again _ _ _ _ c.in-Ok.ensures.numbered) known)
+    All-weaker (λ one. IsKnown (g.B.Board.seat one.session.board) g.D.ScriptDesk.manager (g.D.ScriptDesk.issued c.args.self.now.desk))
+    (λ one. IsKnown (g.B.Board.seat one.session.board) g.D.ScriptDesk.manager (g.D.ScriptDesk.issued c.open.new.self))
+    (λ one known. known-later _ _ _ _ (issued-grows g.D.ScriptDesk.again _ _ _ _ c.in-Ok.ensures.numbered) known)
     c.args.self.now.sessions.waiting c.args.self.now.waiting
 
 pub returns-in-Ok-clause-opened : goal.returns-in-Ok-clause-opened
 returns-in-Ok-clause-opened g c =
-    let number = c.id-session.ensures ∙ ap (λ (seat : Seated). seat.number) (sym (c.requires.seats c.in-Ok.opened)) in
-    let numbered = subst (λ (n : ℕ). IsNumbered g.D.ScriptDesk.again (g.D.ScriptDesk.manager c.args.self.now.desk).limit n (g.D.ScriptDesk.issued c.args.self.now.desk) (g.D.ScriptDesk.issued c.open.new.self))
+    let number = c.id-session.ensures ∙ ap (λ (seat : Seated). seat.number) (sym (c.args.self.now.seats c.in-Ok.opened)) in
+    let numbered = subst (λ (n : ℕ). IsNumbered g.D.ScriptDesk.again g.D.ScriptDesk.manager.limit n (g.D.ScriptDesk.issued c.args.self.now.desk) (g.D.ScriptDesk.issued c.open.new.self))
     (sym number) c.in-Ok.ensures.numbered in
     let named = named-so g.D.ScriptDesk.again _ c.id-session.result _ _ c.args.name c.args.self.now.names.sessions c.put.new.self numbered c.args.self.now.named
     c.put.ensures.next c.put.ensures.again in

@@ -15,13 +15,13 @@ invariant_of-self-clause-counted g c =
 pub invariant_of-self-clause-resting : goal.invariant_of-self-clause-resting
 invariant_of-self-clause-resting g c =
     All-put c.args.self.now.sessions.resting c.put.new.self (record { name = c.take-name.result.name; session = c.in-Ok.session }) c.put.ensures
-    (λ one. IsKnown (g.B.Board.seat one.session.board) (g.D.ScriptDesk.manager c.args.self.now.desk) (g.D.ScriptDesk.issued c.args.self.now.desk)) c.args.self.now.resting
+    (λ one. IsKnown (g.B.Board.seat one.session.board) g.D.ScriptDesk.manager (g.D.ScriptDesk.issued c.args.self.now.desk)) c.args.self.now.resting
     (kept-known _ _ _ _ c.in-Ok.ensures.rests
-    (taken (λ one. IsKnown (g.B.Board.seat one.session.board) (g.D.ScriptDesk.manager c.args.self.now.desk) (g.D.ScriptDesk.issued c.args.self.now.desk)) c.args.self.now.sessions.waiting c.args.place c.take-name.result c.requires c.args.self.now.waiting c.take-name.ensures.taken))
+    (taken (λ one. IsKnown (g.B.Board.seat one.session.board) g.D.ScriptDesk.manager (g.D.ScriptDesk.issued c.args.self.now.desk)) c.args.self.now.sessions.waiting c.args.place c.take-name.result c.requires c.args.self.now.waiting c.take-name.ensures.taken))
 
 pub invariant_of-self-clause-waiting : goal.invariant_of-self-clause-waiting
 invariant_of-self-clause-waiting g c =
-    All-left c.args.self.now.sessions.waiting c.take-name.new.self c.args.place c.requires c.take-name.ensures.left (λ one. IsKnown (g.B.Board.seat one.session.board) (g.D.ScriptDesk.manager c.args.self.now.desk) (g.D.ScriptDesk.issued c.args.self.now.desk)) c.args.self.now.waiting
+    All-left c.args.self.now.sessions.waiting c.take-name.new.self c.args.place c.requires c.take-name.ensures.left (λ one. IsKnown (g.B.Board.seat one.session.board) g.D.ScriptDesk.manager (g.D.ScriptDesk.issued c.args.self.now.desk)) c.args.self.now.waiting
 
 pub put_at-requires-clause-within : goal.put_at-requires-clause-within
 put_at-requires-clause-within g c =
@@ -46,9 +46,9 @@ invariant_of-self-in-Err-clause-waiting g c =
     c.take-name.ensures.taken c.take-name.ensures.left c.put_at.ensures in
     rw there
     (All-with_session c.args.self.now.sessions.waiting c.args.place c.in-Err.waiting
-    (λ session. IsKnown (g.B.Board.seat session.board) (g.D.ScriptDesk.manager c.args.self.now.desk) (g.D.ScriptDesk.issued c.args.self.now.desk)) c.args.self.now.waiting
+    (λ session. IsKnown (g.B.Board.seat session.board) g.D.ScriptDesk.manager (g.D.ScriptDesk.issued c.args.self.now.desk)) c.args.self.now.waiting
     (kept-known _ _ _ _ c.in-Err.ensures.waits
-    (taken (λ one. IsKnown (g.B.Board.seat one.session.board) (g.D.ScriptDesk.manager c.args.self.now.desk) (g.D.ScriptDesk.issued c.args.self.now.desk)) c.args.self.now.sessions.waiting c.args.place c.take-name.result c.requires
+    (taken (λ one. IsKnown (g.B.Board.seat one.session.board) g.D.ScriptDesk.manager (g.D.ScriptDesk.issued c.args.self.now.desk)) c.args.self.now.sessions.waiting c.args.place c.take-name.result c.requires
     c.args.self.now.waiting c.take-name.ensures.taken)))
 
 pub returns-in-Ok-clause-polled : goal.returns-in-Ok-clause-polled

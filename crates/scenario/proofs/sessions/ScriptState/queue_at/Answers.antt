@@ -11,7 +11,7 @@ invariant_of-self-clause-counted g c =
 pub invariant_of-self-clause-waiting : goal.invariant_of-self-clause-waiting
 invariant_of-self-clause-waiting g c =
     All-called c.args.self.now.sessions.waiting c.args.place c.session_mut-waiting.result.now c.queue.new.self c.requires c.session_mut-waiting.ensures.value
-    (λ waiting. IsKnown (g.B.Board.seat waiting.board) (g.D.ScriptDesk.manager c.args.self.now.desk) (g.D.ScriptDesk.issued c.args.self.now.desk)) c.args.self.now.waiting
+    (λ waiting. IsKnown (g.B.Board.seat waiting.board) g.D.ScriptDesk.manager (g.D.ScriptDesk.issued c.args.self.now.desk)) c.args.self.now.waiting
     (λ h. kept-known _ _ _ _ c.queue.ensures.waiting.seat_ h)
 
 pub returns-clause-as_many : goal.returns-clause-as_many
