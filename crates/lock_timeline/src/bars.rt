@@ -7,8 +7,8 @@ use modes_core::{Mode, ModeSet, Tag, conflicts};
 /// How many letters of a bar's label fit between a step and the next one.
 const LETTERS_OF_A_STEP: usize = 6;
 
-/// A bar of the timeline: a session's lock, from the step in which the session asked for it to the step in which the
-/// lock or its wait ended.
+/// A bar of the timeline: a session's lock, from the step in which the session asked for it to the step in
+/// which the lock or its wait ended.
 #[derive(Drop)]
 pub struct Bar {
     /// The number of the lane of the bar's session.
@@ -39,7 +39,8 @@ impl Bar {
         Span::new(self.asked, self.got.or(self.ended).unwrap_or(last))
     }
 
-    /// The steps in which the bar's session had the lock, if it got it. It has it up to `last` where it has it still.
+    /// The steps in which the bar's session had the lock, if it got it. It has it up to `last` where it has
+    /// it still.
     pub fn hold(&self, last: u32) -> Option<Span> {
         let got = self.got?;
         Some(Span::new(got, self.ended.unwrap_or(last)))
@@ -93,8 +94,8 @@ impl Span {
 pub enum Way {
     /// The session of the other bar holds a conflicting mode.
     Holds,
-    /// The session of the other bar awaits a conflicting mode, and is before the session that waits in the wait
-    /// queue.
+    /// The session of the other bar awaits a conflicting mode, and is before the session that waits in the
+    /// wait queue.
     StandsBefore,
 }
 
@@ -119,8 +120,8 @@ pub fn held_on(bars: &[Bar], lane: u32, tag: Tag) -> ModeSet {
     modes
 }
 
-/// Whether `bar`, held or awaited, is in the way of `mode` on `tag` for the session of `lane`: `bar` is another
-/// session's, on `tag`, in a mode that conflicts with `mode`.
+/// Whether `bar`, held or awaited, is in the way of `mode` on `tag` for the session of `lane`: `bar` is
+/// another session's, on `tag`, in a mode that conflicts with `mode`.
 pub fn is_in_the_way(bar: &Bar, lane: u32, tag: Tag, mode: Mode) -> bool
     ensures { result ≡ bars_the_way bar.now lane tag mode }
 {

@@ -6,9 +6,9 @@ use std::alloc::AllocError;
 use std::fmt::Write;
 
 impl Timeline {
-    /// Draws the timeline as a Gantt chart of Mermaid, whose time counts the steps from 1: a section for each session that
-    /// has a lock or waits for one, with a task for each lock and for each wait. The task of a wait names the sessions in
-    /// its way. Refused only where memory ran out.
+    /// Draws the timeline as a Gantt chart of Mermaid, whose time counts the steps from 1: a section for each
+    /// session that has a lock or waits for one, with a task for each lock and for each wait. The task of a
+    /// wait names the sessions in its way. Refused only where memory ran out.
     pub fn gantt(&self) -> Result<String, AllocError> {
         let mut text = String::new(self.alloc);
         writeln!(text, "gantt")?;
@@ -61,7 +61,8 @@ impl Timeline {
         write_time(text, "crit", wait)
     }
 
-    /// Writes to `text` the task for the time in which the session of `bar` held the lock, if the session got it.
+    /// Writes to `text` the task for the time in which the session of `bar` held the lock, if the session got
+    /// it.
     fn write_hold(&self, bar: &Bar, text: &mut String) -> Result<(), AllocError> {
         let Some(hold) = bar.hold(self.last_step()) else {
             return Ok(());

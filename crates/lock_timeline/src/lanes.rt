@@ -50,8 +50,8 @@ impl Lane {
         }
     }
 
-    /// Takes the first row of the lane that is free at the step `step`, or a new one, for a bar, and answers the
-    /// row's number. Refused only where memory ran out.
+    /// Takes the first row of the lane that is free at the step `step`, or a new one, for a bar, and answers
+    /// the row's number. Refused only where memory ran out.
     pub fn take_row(&mut self, step: u32) -> Result<u32, AllocError> {
         self.has_bars = true;
         let mut row = 0_u32;

@@ -49,9 +49,9 @@ fn x_of(step: u32) -> u32 {
 }
 
 impl Timeline {
-    /// Draws the timeline as SVG: a lane for each session, a line for each step with the number of the script's line, a
-    /// bar for each lock, which is red and dashed while it is awaited, and an arrow from each wait to the locks in its
-    /// way. Refused only where memory ran out.
+    /// Draws the timeline as SVG: a lane for each session, a line for each step with the number of the
+    /// script's line, a bar for each lock, which is red and dashed while it is awaited, and an arrow from
+    /// each wait to the locks in its way. Refused only where memory ran out.
     pub fn svg(&self) -> Result<String, AllocError> {
         let mut text = String::new(self.alloc);
         let width = self.width();
@@ -93,7 +93,8 @@ impl Timeline {
         u32::try_from(self.steps.len()).unwrap_or(u32::MAX)
     }
 
-    /// How far from the top the lane numbered `number` begins; where there is no such lane, the end of all lanes.
+    /// How far from the top the lane numbered `number` begins; where there is no such lane, the end of all
+    /// lanes.
     fn top_of(&self, number: u32) -> u32 {
         let mut top = TOP;
         let mut before = number;
@@ -128,8 +129,8 @@ impl Timeline {
         Ok(())
     }
 
-    /// Writes to `text` a line above each lane, as wide as the picture, by `width`, with the name of the lane's
-    /// session.
+    /// Writes to `text` a line above each lane, as wide as the picture, by `width`, with the name of the
+    /// lane's session.
     fn write_lanes(&self, width: u32, text: &mut String) -> Result<(), AllocError> {
         let mut number = 0_u32;
         for lane in &self.lanes {
@@ -191,8 +192,8 @@ impl Timeline {
         )
     }
 
-    /// Writes to `text`, in a picture `width` wide and below `bottom`, what the colours and arrows mean, and from
-    /// which line on the script is left out.
+    /// Writes to `text`, in a picture `width` wide and below `bottom`, what the colours and arrows mean, and
+    /// from which line on the script is left out.
     fn write_below(&self, width: u32, bottom: u32, text: &mut String) -> Result<(), AllocError> {
         let y = bottom.saturating_add(24);
         writeln!(
@@ -210,8 +211,8 @@ impl Timeline {
     }
 }
 
-/// Writes to `text` a rectangle, the part of a bar of the steps `span`, whose top is `y`. `class` says how it looks, and
-/// `label` is shown where the pointer is on it.
+/// Writes to `text` a rectangle, the part of a bar of the steps `span`, whose top is `y`. `class` says how it
+/// looks, and `label` is shown where the pointer is on it.
 fn write_rect(
     text: &mut String,
     class: &str,

@@ -10,8 +10,8 @@ use crate::lanes::{Lane, Name};
 use modes_core::{LockMethod, Mode, Owner, Tag};
 use std::alloc::{AllocError, Global};
 
-/// How many steps a timeline shows at most. Later lines of the script are left out, and the picture says from which
-/// on.
+/// How many steps a timeline shows at most. Later lines of the script are left out, and the picture says from
+/// which on.
 pub const MOST_STEPS: usize = 2000;
 
 /// How often an owner has a lock. The owner is the session itself, or its transaction at one level.
@@ -25,8 +25,8 @@ struct Claim {
     count: u32,
 }
 
-/// What the sessions of a script were answered so far, to be drawn as a picture. A step is a line of the script with
-/// a command.
+/// What the sessions of a script were answered so far, to be drawn as a picture. A step is a line of the
+/// script with a command.
 #[derive(Drop)]
 pub struct Timeline {
     pub(crate) alloc: Global,
@@ -39,7 +39,8 @@ pub struct Timeline {
     pub(crate) left_out: Option<u32>,
     labels: Labels,
     claims: Vec<Claim>,
-    /// The numbers of the bars whose sessions wait; those of each object are in the order of the object's wait queue.
+    /// The numbers of the bars whose sessions wait; those of each object are in the order of the object's
+    /// wait queue.
     queue: Vec<u32>,
 }
 
@@ -64,8 +65,8 @@ impl Timeline {
         }
     }
 
-    /// Begins the step of the script's line `number`: what is noted next is of this step. After `MOST_STEPS` steps,
-    /// only the number of the first line that is left out is kept. Refused only where memory ran out.
+    /// Begins the step of the script's line `number`: what is noted next is of this step. After `MOST_STEPS`
+    /// steps, only the number of the first line that is left out is kept. Refused only where memory ran out.
     pub fn begin_line(&mut self, number: u32) -> Result<(), AllocError> {
         if self.steps.len() < MOST_STEPS {
             self.steps.push(number)?;
@@ -85,14 +86,14 @@ impl Timeline {
         Ok(())
     }
 
-    /// Notes that the object `tag` was given the name `name`, which later labels show in place of the tag. Refused
-    /// only where memory ran out.
+    /// Notes that the object `tag` was given the name `name`, which later labels show in place of the tag.
+    /// Refused only where memory ran out.
     pub fn name_object(&mut self, tag: Tag, name: &str) -> Result<(), AllocError> {
         self.labels.push(tag, name)
     }
 
-    /// Notes that the session `name` was granted `mode` on `tag` for `owner`, once more if the session had the lock
-    /// already. Refused only where memory ran out.
+    /// Notes that the session `name` was granted `mode` on `tag` for `owner`, once more if the session had
+    /// the lock already. Refused only where memory ran out.
     pub fn grant(
         &mut self,
         name: &Name,
@@ -113,7 +114,8 @@ impl Timeline {
         self.claim(lane, bar, owner)
     }
 
-    /// Notes that the session `name` waits for `mode` on `tag`, for `owner`. Refused only where memory ran out.
+    /// Notes that the session `name` waits for `mode` on `tag`, for `owner`. Refused only where memory ran
+    /// out.
     pub fn wait(
         &mut self,
         name: &Name,
@@ -176,8 +178,8 @@ impl Timeline {
         }
     }
 
-    /// Notes that the session `name` ended the innermost level of its transaction. If `keeps`, the level's locks go
-    /// to the level outside it; otherwise they are dropped.
+    /// Notes that the session `name` ended the innermost level of its transaction. If `keeps`, the level's
+    /// locks go to the level outside it; otherwise they are dropped.
     pub fn end_level(&mut self, name: &Name, keeps: bool) {
         let Some(lane) = self.lane_of(name) else {
             return;
@@ -209,7 +211,8 @@ impl Timeline {
         self.end_transaction(lane);
     }
 
-    /// Notes that the session `name` aborted: its locks are dropped, but for the session's own advisory locks.
+    /// Notes that the session `name` aborted: its locks are dropped, but for the session's own advisory
+    /// locks.
     pub fn abort(&mut self, name: &Name) {
         let Some(lane) = self.lane_of(name) else {
             return;
@@ -250,8 +253,8 @@ impl Timeline {
         next_of(self.steps.len()).saturating_sub(1)
     }
 
-    /// The number of the lane of the open session `name`, if there is one. Once lines of the script are left out the
-    /// answer is `None`.
+    /// The number of the lane of the open session `name`, if there is one. Once lines of the script are left
+    /// out the answer is `None`.
     fn lane_of(&self, name: &Name) -> Option<u32> {
         if self.left_out.is_some() {
             return None;
@@ -266,8 +269,8 @@ impl Timeline {
         None
     }
 
-    /// The level at which `owner` claims a lock for the session of `lane`: 0 for the session itself, or the level of
-    /// its transaction.
+    /// The level at which `owner` claims a lock for the session of `lane`: 0 for the session itself, or the
+    /// level of its transaction.
     fn level_of(&self, lane: u32, owner: Owner) -> u32 {
         match (owner, self.lanes.get(lane as usize)) {
             (Owner::Transaction, Some(it)) => it.level,
@@ -287,8 +290,8 @@ impl Timeline {
         None
     }
 
-    /// Adds a bar of `mode` on `tag` that begins in the step begun last, in the first free row of `lane`, and answers
-    /// the bar's number. The lock is held from the step `got` on, or awaited where that is `None`.
+    /// Adds a bar of `mode` on `tag` that begins in the step begun last, in the first free row of `lane`, and
+    /// answers the bar's number. The lock is held from the step `got` on, or awaited where that is `None`.
     fn add_bar(
         &mut self,
         lane: u32,
@@ -334,7 +337,8 @@ impl Timeline {
         Ok(())
     }
 
-    /// Ends all levels of the transaction of the session of `lane`, and the bars of locks that no owner has any more.
+    /// Ends all levels of the transaction of the session of `lane`, and the bars of locks that no owner has
+    /// any more.
     fn end_transaction(&mut self, lane: u32) {
         if let Some(it) = self.lanes.get_mut(lane as usize) {
             it.level = 1;

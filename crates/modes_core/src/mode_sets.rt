@@ -64,7 +64,8 @@ impl ModeSet {
         self.mask & other.mask != 0
     }
 
-    /// The mode with the lowest number that is in this set and in `other`, or `None` where no mode is in both.
+    /// The mode with the lowest number that is in this set and in `other`, or `None` where no mode is in
+    /// both.
     pub fn lowest_in_both(self, other: Self) -> Option<Mode>
         ensures in_both { IfSome result (λ mode. (set_has self mode ≡ true) × (set_has other mode ≡ true)) }
         ensures lowest { IfSome result (λ mode. (lower : _) → number_of lower < number_of mode →
@@ -88,8 +89,8 @@ pub fn conflict_is_symmetric()
     ensures { (mode other : _) → conflict mode other ≡ conflict other mode }
 {}
 
-/// The law on which the fast path depends: the modes 1 to 3, which fast-path slots may have, conflict with none but the modes
-/// from 5 on, which strong lock counters count.
+/// The law on which the fast path depends: the modes 1 to 3, which fast-path slots may have, conflict with
+/// none but the modes from 5 on, which strong lock counters count.
 pub fn slot_modes_conflict_with_counted_ones()
     ensures { (mode other : _) → number_of mode ≤ 3 → conflict mode other ≡ true → 5 ≤ number_of other }
 {}

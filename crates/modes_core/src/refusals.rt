@@ -36,7 +36,8 @@ pub enum Refusal {
     Conflict {
         /// The session whose hold or wait is in the way of the refused request.
         session: SessionId,
-        /// The mode of the session in the way, which conflicts with the mode that the refused request asked for.
+        /// The mode of the session in the way, which conflicts with the mode that the refused request asked
+        /// for.
         mode: Mode,
         /// Whether the session in the way holds the conflicting mode or waits for it.
         how: How,
@@ -47,10 +48,12 @@ pub enum Refusal {
     /// The session's local lock table has as many entries as the configuration allows.
     #[error("the local lock table is full")]
     LocalFull,
-    /// The resource owner (transaction or session) has acquired the lock in the mode as often as can be counted.
+    /// The resource owner (transaction or session) has acquired the lock in the mode as often as can be
+    /// counted.
     #[error("the count of this lock is full")]
     CountFull,
-    /// Waiting would close a cycle with `session` (`DeadLockReport` after the simple test of `ProcSleep` in proc.c).
+    /// Waiting would close a cycle with `session` (`DeadLockReport` after the simple test of `ProcSleep` in
+    /// proc.c).
     #[error("simple deadlock with session {session}")]
     SimpleDeadlock {
         /// The session that waits, or would wait, for the session whose request is refused.

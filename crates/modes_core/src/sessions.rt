@@ -5,11 +5,12 @@ ghost use Rattle.modes_core.specs.Sessions.{most_sessions};
 use std::fmt;
 use std::marker::Model;
 
-/// How many sessions a lock manager has at most: session numbers are those below this (`MaxBackends` in globals.c, of a server
-/// as large as can be).
+/// How many sessions a lock manager has at most: session numbers are those below this (`MaxBackends` in
+/// globals.c, of a server as large as can be).
 pub const MOST_SESSIONS: u16 = 1024;
 
-/// How many sessions a lock manager has at most that is not made for a server, and how many sessions a script has.
+/// How many sessions a lock manager has at most that is not made for a server, and how many sessions a script
+/// has.
 pub const USUAL_SESSIONS: u16 = 64;
 
 /// The number of a session, 0 to 1,023, given in the order of opening. Contracts see the number. The
@@ -57,8 +58,8 @@ impl fmt::Display for SessionId {
     }
 }
 
-/// Whose a lock is (`ResourceOwner` in resowner.h): the transaction's, where the lock ends with the transaction, or the
-/// session's, where the lock outlives a commit.
+/// Whose a lock is (`ResourceOwner` in resowner.h): the transaction's, where the lock ends with the
+/// transaction, or the session's, where the lock outlives a commit.
 #[derive(Clone, Copy, Debug, PartialEq, Eq)]
 pub enum Owner {
     /// The session: the lock stays at the end of a transaction.

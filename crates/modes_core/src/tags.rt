@@ -18,9 +18,9 @@ pub const PARTITIONS: u32 = 16;
 /// How many strong lock counters there are (`FAST_PATH_STRONG_LOCK_HASH_PARTITIONS` in lock.c).
 pub const STRONG_COUNTERS: u32 = 1024;
 
-/// Whose rules a lock follows (`LOCKMETHODID` in lock.h): the server's own locks have the default method, those
-/// that applications name have the user method. Both have the same modes and conflicts; they differ in what an
-/// abort leaves to the session.
+/// Whose rules a lock follows (`LOCKMETHODID` in lock.h): the server's own locks have the default method,
+/// those that applications name have the user method. Both have the same modes and conflicts; they differ in
+/// what an abort leaves to the session.
 #[derive(Clone, Copy, PartialEq, Eq)]
 pub enum LockMethod {
     /// The lock method of the server's own locks (`DEFAULT_LOCKMETHOD`).
@@ -29,8 +29,9 @@ pub enum LockMethod {
     User,
 }
 
-/// What a lock is on (`LOCKTAG` in lock.h). Relations and objects have the default lock method, advisory locks the user method.
-/// The smallest field is first, beside the number of the variant, so that a tag takes 16 bytes.
+/// What a lock is on (`LOCKTAG` in lock.h). Relations and objects have the default lock method, advisory
+/// locks the user method. The smallest field is first, beside the number of the variant, so that a tag takes
+/// 16 bytes.
 #[derive(Clone, Copy, Debug, PartialEq, Eq, Hash)]
 pub enum Tag {
     /// A table or an index (`LOCKTAG_RELATION`).
@@ -51,7 +52,8 @@ pub enum Tag {
         /// The number of the object in the catalog `class`.
         object: u32,
     },
-    /// What only the application knows, named by numbers of its own (`LOCKTAG_ADVISORY`, of `USER_LOCKMETHOD`).
+    /// What only the application knows, named by numbers of its own (`LOCKTAG_ADVISORY`, of
+    /// `USER_LOCKMETHOD`).
     Advisory {
         /// The third number that names the lock, 1 or 2 in PostgreSQL.
         sub: u16,
@@ -72,8 +74,8 @@ impl Tag {
         Tag::Relation { database, relation }
     }
 
-    /// The tag of the object numbered `object` in the catalog `class` of `database` (`SET_LOCKTAG_OBJECT` in lock.h).
-    /// `sub_object` is the number of a part of the object, 0 for the whole.
+    /// The tag of the object numbered `object` in the catalog `class` of `database` (`SET_LOCKTAG_OBJECT` in
+    /// lock.h). `sub_object` is the number of a part of the object, 0 for the whole.
     pub fn object(database: u32, class: u32, object: u32, sub_object: u16) -> Self
         ensures { result ≡ Tag.Object sub_object database class object }
     {
@@ -86,8 +88,8 @@ impl Tag {
     }
 
     /// The tag of an advisory lock (`SET_LOCKTAG_ADVISORY` in lock.h): `key1` and `key2` are numbers of the
-    /// application's own in `database`. By `sub` PostgreSQL's functions distinguish one key of 64 bits (1) from two
-    /// of 32 (2).
+    /// application's own in `database`. By `sub` PostgreSQL's functions distinguish one key of 64 bits (1)
+    /// from two of 32 (2).
     pub fn advisory(database: u32, key1: u32, key2: u32, sub: u16) -> Self
         ensures { result ≡ Tag.Advisory sub database key1 key2 }
     {
@@ -131,7 +133,8 @@ impl Tag {
         }
     }
 
-    /// The number in which objects of one kind differ most often: the relation's number, the object's number, or the second key of an advisory lock.
+    /// The number in which objects of one kind differ most often: the relation's number, the object's number,
+    /// or the second key of an advisory lock.
     #[inline(always)]
     fn own_number(self) -> u32
         ensures { result ≡ own_number_of self }
@@ -143,8 +146,8 @@ impl Tag {
         }
     }
 
-    /// Whether this tag is `other`: `==`, in the word that contracts use. The numbers that differ most often are
-    /// compared first, without asking for the kind of both, so that a walk over tags stays short.
+    /// Whether this tag is `other`: `==`, in the word that contracts use. The numbers that differ most often
+    /// are compared first, without asking for the kind of both, so that a walk over tags stays short.
     #[inline(always)]
     pub fn is_same(self, other: Self) -> bool
         ensures { result ≡ tag_eq self other }
@@ -176,8 +179,9 @@ impl Tag {
         }
     }
 
-    /// The tag's hash, in place of `LockTagHashCode` of lock.c: the first of its six numbers, and then for each further number
-    /// the hash times 31 plus that number, modulo 2^32. Each number is so multiplied by a power of 31 of its own.
+    /// The tag's hash, in place of `LockTagHashCode` of lock.c: the first of its six numbers, and then for
+    /// each further number the hash times 31 plus that number, modulo 2^32. Each number is so multiplied by a
+    /// power of 31 of its own.
     pub fn hash(self) -> u32
         ensures { result ≡ hash_of self }
     {
@@ -221,7 +225,8 @@ impl Tag {
         (self.hash() % PARTITIONS) as u8
     }
 
-    /// The index of the strong lock counter that counts for the object, 0 to 1023 (`FastPathStrongLockHashPartition` in lock.c).
+    /// The index of the strong lock counter that counts for the object, 0 to 1023
+    /// (`FastPathStrongLockHashPartition` in lock.c).
     pub fn strong_index(self) -> u16
         ensures value { result ≡ index_of self }
         ensures within { result < 1024 }
@@ -284,8 +289,9 @@ impl fmt::Display for Tag {
     }
 }
 
-/// Whether a session of `database` may take `mode` on `tag` by the fast path (`EligibleForRelationFastPath` in lock.c): the tag
-/// is a relation of that database, which is not 0, and the mode is 1 to 3, no two of which conflict.
+/// Whether a session of `database` may take `mode` on `tag` by the fast path (`EligibleForRelationFastPath`
+/// in lock.c): the tag is a relation of that database, which is not 0, and the mode is 1 to 3, no two of
+/// which conflict.
 pub fn is_eligible(database: u32, tag: Tag, mode: Mode) -> bool
     ensures { result ≡ is_eligible_for database tag mode }
 {
@@ -295,8 +301,9 @@ pub fn is_eligible(database: u32, tag: Tag, mode: Mode) -> bool
     }
 }
 
-/// Whether `mode` on `tag` conflicts with locks that may be in fast-path slots (`ConflictsWithRelationFastPath` in
-/// lock.c): the tag is a relation of a database other than 0, and the mode is 5 or more.
+/// Whether `mode` on `tag` conflicts with locks that may be in fast-path slots
+/// (`ConflictsWithRelationFastPath` in lock.c): the tag is a relation of a database other than 0, and the
+/// mode is 5 or more.
 pub fn is_strong(tag: Tag, mode: Mode) -> bool
     ensures { result ≡ is_strong_on tag mode }
 {

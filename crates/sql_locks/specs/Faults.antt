@@ -6,8 +6,8 @@ use Rattle.sql_locks.specs.declared.faults.Defect.TheVariants.{NotUtf8, UnendedT
 use Rattle.sql_locks.specs.declared.faults.SqlFault.{SqlFault}
 use Rattle.sql_locks.specs.declared.faults.SqlFault.TheVariants.{BadWord, NoMemory}
 
--- How a text begins whose first word has this defect: a quote or a prefix of one, a dollar, a slash, a backslash, or a
--- character that begins no word.
+-- How a text begins whose first word has this defect: a quote or a prefix of one, a dollar, a slash, a
+-- backslash, or a character that begins no word.
 abbrev pub BeginsWith : Defect → ℕ → Type 0
 BeginsWith NotUtf8 b = ⊥
 BeginsWith UnendedText b = (is_in_class Name b || (b == 39)) ≡ true

@@ -35,8 +35,9 @@ step_of along link = stepped along link.kind link.from link.to
 abbrev pub edges_of : Along → List Link → List Edge
 edges_of along links = filter_map (step_of along) links
 
--- A list of relations is what the steps lead to from this one on: it has that one, it has the end of each step whose beginning it
--- has, and nothing else, since it lies in every set that has the first and the ends of its steps.
+-- A list of relations is what the steps lead to from this one on: it has that one, it has the end of each
+-- step whose beginning it has, and nothing else, since it lies in every set that has the first and the ends
+-- of its steps.
 pub record IsClosure (edges : List Edge) (start : ℕ) (found : List ℕ) : Type 0 where
   pub starts : Contains found start
   pub closed : (edge : Edge) → Contains edges edge → Contains found edge.from → Contains found edge.to

@@ -80,19 +80,21 @@ pub struct ForeignKey {
     /// The table that has the foreign key, and the table that the key refers to.
     pub table: usize,
     pub referred: usize,
-    /// The columns of the foreign key, and the columns of the other table that the key refers to, where a statement named them.
+    /// The columns of the foreign key, and the columns of the other table that the key refers to, where a
+    /// statement named them.
     pub columns: Vec<String>,
     pub referred_columns: Vec<String>,
-    /// Whether a `DELETE` from the table that the foreign key refers to, or an `UPDATE` of the columns that the key refers to, changes rows of the table that
-    /// has the key: by `CASCADE`, `SET NULL` or `SET DEFAULT`.
+    /// Whether a `DELETE` from the table that the foreign key refers to, or an `UPDATE` of the columns that
+    /// the key refers to, changes rows of the table that has the key: by `CASCADE`, `SET NULL` or `SET
+    /// DEFAULT`.
     pub changes_on_delete: bool,
     pub changes_on_update: bool,
     /// Whether all rows of the table are known to keep the foreign key.
     pub is_valid: bool,
 }
 
-/// The relations that statements made, by their numbers, with their names, links and foreign keys. A relation that was dropped has no name any more, and its
-/// number is given to no other.
+/// The relations that statements made, by their numbers, with their names, links and foreign keys. A relation
+/// that was dropped has no name any more, and its number is given to no other.
 #[derive(Drop)]
 pub struct Catalog {
     pub relations: Vec<Relation>,
@@ -122,7 +124,8 @@ impl Catalog {
         self.names.get(name).copied()
     }
 
-    /// Adds a relation of `kind`, which takes `name` from another one that has it, and answers the new number.
+    /// Adds a relation of `kind`, which takes `name` from another one that has it, and answers the new
+    /// number.
     pub fn add(
         &mut self,
         alloc: Global,

@@ -12,7 +12,8 @@ use modes_core::Mode;
 pub struct SqlCommand {
     pub sql: &'static str,
     pub form: Form,
-    /// The relation of the form, its target or the other one, whose lock mode the help shows for this command.
+    /// The relation of the form, its target or the other one, whose lock mode the help shows for this
+    /// command.
     pub side: Start,
     /// What the help says of this command after its lock mode.
     pub note: &'static str,
@@ -24,7 +25,8 @@ pub fn sql_commands() -> &'static [SqlCommand] {
 }
 
 impl SqlCommand {
-    /// The strongest mode that the row of the command's form has on the relation of the command's `side`, or none where it has no mode on that relation.
+    /// The strongest mode that the row of the command's form has on the relation of the command's `side`, or
+    /// none where it has no mode on that relation.
     pub fn mode(&self) -> Option<Mode>
         ensures { IfSome result (IsModeOf self.now.form self.now.side) }
     {
@@ -77,7 +79,8 @@ fn has_told(parts: &[Part], side: Start, mode: Mode) -> bool
         && is_told(side, part.path.start, part.path.hop))
 }
 
-/// Whether a path from `start` on, whose last step is `hop`, reaches the relation of `side` itself: it begins at that relation and has no last step.
+/// Whether a path from `start` on, whose last step is `hop`, reaches the relation of `side` itself: it begins
+/// at that relation and has no last step.
 fn is_told(side: Start, start: Start, hop: Hop) -> bool
     ensures { result ≡ is_told side start hop }
 {

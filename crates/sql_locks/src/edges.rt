@@ -15,7 +15,8 @@ pub struct Edge {
 }
 
 impl Link {
-    /// This link as a step of a path that goes along `along`, or none where such a path does not follow the link.
+    /// This link as a step of a path that goes along `along`, or none where such a path does not follow the
+    /// link.
     fn step(&self, along: Along) -> Option<Edge>
         ensures { result ≡ step_of along self.now }
     {
@@ -73,7 +74,8 @@ pub fn closure(
     Ok(found)
 }
 
-/// Adds to `found` the ends of those of `edges` that begin at a relation of `found`, and answers the other edges.
+/// Adds to `found` the ends of those of `edges` that begin at a relation of `found`, and answers the other
+/// edges.
 fn follow(alloc: Global, found: &mut Vec<usize>, edges: &Vec<Edge>) -> Result<Vec<Edge>, AllocError>
     ensures { IfOk result (λ rest. IsFollowed found.old.items edges.now.items found.new.items rest.items) }
 {

@@ -18,11 +18,14 @@ pub enum Along {
     Nothing,
     /// Along links to children and partitions, unless the statement says `ONLY`.
     Family,
-    /// Along links to the relations that views read, and to children and partitions, unless the statement says `ONLY`.
+    /// Along links to the relations that views read, and to children and partitions, unless the statement
+    /// says `ONLY`.
     Sources,
-    /// Along links to the relations that a materialized view is made of, and further along those of `Sources`.
+    /// Along links to the relations that a materialized view is made of, and further along those of
+    /// `Sources`.
     Stored,
-    /// Along links to the tables that refer to a table by a foreign key, and to children and partitions, unless the statement says `ONLY`.
+    /// Along links to the tables that refer to a table by a foreign key, and to children and partitions,
+    /// unless the statement says `ONLY`.
     Referring,
 }
 

@@ -1,5 +1,5 @@
-//! What SQL statements lock: the words of a text of statements, the relations that its statements make, and the lock
-//! modes of each statement on the relations that it reaches.
+//! What SQL statements lock: the words of a text of statements, the relations that its statements make, and
+//! the lock modes of each statement on the relations that it reaches.
 #![tactic(auto)]
 
 mod byte_classes;

@@ -41,8 +41,8 @@ impl Act {
     }
 }
 
-/// What a path really goes along where its row says `along`: nothing where `is_only` is true, as for a statement that says `ONLY`, but `along` itself for
-/// `Along::Stored` and wherever `is_only` is false.
+/// What a path really goes along where its row says `along`: nothing where `is_only` is true, as for a
+/// statement that says `ONLY`, but `along` itself for `Along::Stored` and wherever `is_only` is false.
 fn along_gone(along: Along, is_only: bool) -> Along
     ensures { result ≡ along_of along is_only }
 {
@@ -54,8 +54,8 @@ fn along_gone(along: Along, is_only: bool) -> Along
     }
 }
 
-/// The locks of `act` by `links`, in the order of `parts`, which are those of the row of its form: the mode of each part on each relation that the path of
-/// the part reaches.
+/// The locks of `act` by `links`, in the order of `parts`, which are those of the row of its form: the mode
+/// of each part on each relation that the path of the part reaches.
 pub fn locks_of(
     alloc: Global,
     links: &[Link],

@@ -30,7 +30,8 @@ pub const FAMILY_INDEXES: Path = Path {
     hop: Hop::Indexes,
 };
 
-/// The path to the relation that the form is about, with what it reads as a view, and with children and partitions.
+/// The path to the relation that the form is about, with what it reads as a view, and with children and
+/// partitions.
 pub const SOURCES: Path = Path {
     start: Start::Target,
     along: Along::Sources,
@@ -121,14 +122,16 @@ pub const REFERRING: Path = Path {
     hop: Hop::Referring,
 };
 
-/// The path to the relation that the form is about, with all that refer to it, and all that refer to these, and so on.
+/// The path to the relation that the form is about, with all that refer to it, and all that refer to these,
+/// and so on.
 pub const REFERRING_ALL: Path = Path {
     start: Start::Target,
     along: Along::Referring,
     hop: Hop::Stay,
 };
 
-/// The path to the indexes of the relation that the form is about, of all that refer to it, of all that refer to these, and so on.
+/// The path to the indexes of the relation that the form is about, of all that refer to it, of all that refer
+/// to these, and so on.
 pub const REFERRING_ALL_INDEXES: Path = Path {
     start: Start::Target,
     along: Along::Referring,

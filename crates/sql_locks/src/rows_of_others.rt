@@ -4,7 +4,8 @@ use crate::forms::{Awaits, Form, FormRow, Part, Until, Work};
 use crate::paths::{FAMILY, FAMILY_INDEXES, INDEXES, TARGET};
 use modes_core::Mode;
 
-/// The forms of statements on triggers, rules, policies, comments and maintenance, each with what it locks, in the order in which the server takes the locks.
+/// The forms of statements on triggers, rules, policies, comments and maintenance, each with what it locks,
+/// in the order in which the server takes the locks.
 pub static OTHER_ROWS: [FormRow; 20] = [
     FormRow {
         form: Form::CreateTrigger,

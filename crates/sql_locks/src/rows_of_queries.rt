@@ -7,7 +7,8 @@ use crate::paths::{
 };
 use modes_core::Mode;
 
-/// The forms of queries, of changes of rows and of `LOCK TABLE`, each with what it locks, in the order in which the server takes the locks.
+/// The forms of queries, of changes of rows and of `LOCK TABLE`, each with what it locks, in the order in
+/// which the server takes the locks.
 pub static QUERY_ROWS: [FormRow; 26] = [
     FormRow {
         form: Form::Select,

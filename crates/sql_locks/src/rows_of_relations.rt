@@ -7,7 +7,8 @@ use crate::paths::{
 };
 use modes_core::Mode;
 
-/// The forms that make, change and drop relations, but for `ALTER TABLE`, each with what it locks, in the order in which the server takes the locks.
+/// The forms that make, change and drop relations, but for `ALTER TABLE`, each with what it locks, in the
+/// order in which the server takes the locks.
 pub static RELATION_ROWS: [FormRow; 35] = [
     FormRow {
         form: Form::CreateTable,

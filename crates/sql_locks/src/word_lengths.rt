@@ -54,8 +54,8 @@ fn run_length(rest: &[u8], class: ByteClass) -> usize
     rest.len()
 }
 
-/// The text in single quotes with which `rest` begins and whose first quote is at `begin`: its kind and its length. Where `escapes`, a backslash takes the
-/// next byte with it.
+/// The text in single quotes with which `rest` begins and whose first quote is at `begin`: its kind and its
+/// length. Where `escapes`, a backslash takes the next byte with it.
 fn quoted_text(rest: &[u8], begin: usize, escapes: bool) -> Result<(WordKind, usize), Defect>
     requires { begin < length rest.now }
     ensures within { IfOk result (λ found. IsWithin found.1 rest.now) }
@@ -68,7 +68,8 @@ fn quoted_text(rest: &[u8], begin: usize, escapes: bool) -> Result<(WordKind, us
     }
 }
 
-/// The name in double quotes with which `rest` begins and whose first quote is at `begin`: its kind and its length.
+/// The name in double quotes with which `rest` begins and whose first quote is at `begin`: its kind and its
+/// length.
 fn quoted_name(rest: &[u8], begin: usize) -> Result<(WordKind, usize), Defect>
     requires { begin < length rest.now }
     ensures within { IfOk result (λ found. IsWithin found.1 rest.now) }
@@ -81,8 +82,8 @@ fn quoted_name(rest: &[u8], begin: usize) -> Result<(WordKind, usize), Defect>
     }
 }
 
-/// Where the quoted part of `rest` ends whose first `quote` is at `begin`: after the first further `quote` that is not doubled. Where `escapes`, a backslash
-/// takes the next byte with it.
+/// Where the quoted part of `rest` ends whose first `quote` is at `begin`: after the first further `quote`
+/// that is not doubled. Where `escapes`, a backslash takes the next byte with it.
 fn quoted_end(rest: &[u8], begin: usize, quote: u8, escapes: bool) -> Option<usize>
     requires { begin < length rest.now }
     ensures within { IfSome result (λ end. (begin + 1 < end) × (end ≤ length rest.now)) }
@@ -116,7 +117,8 @@ fn is_at(text: &[u8], place: usize, byte: u8) -> bool
     }
 }
 
-/// The kind and the length of the word with which `rest` begins: a parameter, as `$1`, or a text between two dollar tags.
+/// The kind and the length of the word with which `rest` begins: a parameter, as `$1`, or a text between two
+/// dollar tags.
 fn dollar_word(rest: &[u8]) -> Result<(WordKind, usize), Defect>
     requires some { 0 < length rest.now }
     requires dollar { slice_index rest.now 0 ≡ 36 }
@@ -138,7 +140,8 @@ fn dollar_word(rest: &[u8]) -> Result<(WordKind, usize), Defect>
     }
 }
 
-/// Where the text between dollar tags ends with which `rest` begins. The opening tag has `tag` bytes, with both dollars.
+/// Where the text between dollar tags ends with which `rest` begins. The opening tag has `tag` bytes, with
+/// both dollars.
 fn dollar_end(rest: &[u8], tag: usize) -> Option<usize>
     requires some { 0 < tag }
     requires within { tag ≤ length rest.now }
@@ -153,7 +156,8 @@ fn dollar_end(rest: &[u8], tag: usize) -> Option<usize>
     None
 }
 
-/// The kind and the length of the word with which `rest` begins: a point, or a number that begins with a point.
+/// The kind and the length of the word with which `rest` begins: a point, or a number that begins with a
+/// point.
 fn point_or_number(rest: &[u8]) -> Result<(WordKind, usize), Defect>
     requires some { 0 < length rest.now }
     requires point { slice_index rest.now 0 ≡ 46 }
@@ -167,8 +171,8 @@ fn point_or_number(rest: &[u8]) -> Result<(WordKind, usize), Defect>
     }
 }
 
-/// The kind and the length of the line with which `rest` begins and by which a dump is guarded, `\restrict KEY` or `\unrestrict KEY`. Such a line is passed
-/// as a comment is. Another command of psql is a defect.
+/// The kind and the length of the line with which `rest` begins and by which a dump is guarded, `\restrict
+/// KEY` or `\unrestrict KEY`. Such a line is passed as a comment is. Another command of psql is a defect.
 fn guard_of_dump(rest: &[u8]) -> Result<(WordKind, usize), Defect>
     requires some { 0 < length rest.now }
     requires backslash { slice_index rest.now 0 ≡ 92 }
@@ -238,7 +242,8 @@ fn operator_length(rest: &[u8]) -> usize
     length.max(1)
 }
 
-/// The kind and the length of the word with which `rest` begins: a name, a text with a prefix, as `E'..'`, or a name in quotes with the prefix `U&`.
+/// The kind and the length of the word with which `rest` begins: a name, a text with a prefix, as `E'..'`, or
+/// a name in quotes with the prefix `U&`.
 fn name_or_prefix(rest: &[u8]) -> Result<(WordKind, usize), Defect>
     requires some { 0 < length rest.now }
     requires name { is_in_class ByteClass.Name (slice_index rest.now 0) ≡ true }
@@ -255,8 +260,8 @@ fn name_or_prefix(rest: &[u8]) -> Result<(WordKind, usize), Defect>
     }
 }
 
-/// The rows of a `COPY .. FROM stdin` at the front of `rest`, which begin after the line's end: all up to the line `\.`, and how many
-/// bytes that is.
+/// The rows of a `COPY .. FROM stdin` at the front of `rest`, which begin after the line's end: all up to the
+/// line `\.`, and how many bytes that is.
 pub fn rows_length(rest: &[u8]) -> Result<(WordKind, usize), Defect>
     requires { 0 < length rest.now }
     ensures within { IfOk result (λ found. IsWithin found.1 rest.now) }

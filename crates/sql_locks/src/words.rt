@@ -124,8 +124,8 @@ impl CopyProgress {
     }
 }
 
-/// The words of `text`, blanks and comments too: joined they are the text. A word that doesn't end, a command of psql
-/// and a character that begins no word of SQL are faults, which name the line and the place.
+/// The words of `text`, blanks and comments too: joined they are the text. A word that doesn't end, a command
+/// of psql and a character that begins no word of SQL are faults, which name the line and the place.
 pub fn split_words(alloc: Global, text: &[u8]) -> Result<Vec<Word<'_>>, SqlFault>
     ensures nothing_lost { IfOk result (λ words. flat_map text_of words.items ≡ text.now) }
     ensures lines { IfOk result (λ words. AreNumbered 1 words.items) }

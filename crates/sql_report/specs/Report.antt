@@ -25,7 +25,8 @@ line_of_statement statement = statement.line
 abbrev pub text_of : Answer → List ℕ
 text_of answer = string_bytes answer.text
 
--- Locks are those of some forms over some relations and links, and modes are those that these locks keep waiting.
+-- Locks are those of some forms over some relations and links, and modes are those that these locks keep
+-- waiting.
 abbrev pub CameTo : List Lock → ℕ → Type 0
 CameTo locks stopped =
     (relations : List Relation) × (links : List Link) × (acts : List Act) × AreLocksOfActs links acts locks

@@ -7,7 +7,8 @@ ghost use Rattle.sql_report.specs.Clash.{clashes};
 use modes_core::{Mode, ModeSet, conflicts};
 use std::alloc::AllocError;
 
-/// A kind of sessions: the mode that they take, what a report calls them where they wait, and what it calls one of them that a statement waits for.
+/// A kind of sessions: the mode that they take, what a report calls them where they wait, and what it calls
+/// one of them that a statement waits for.
 struct Others {
     mode: Mode,
     wait: &'static str,
@@ -68,7 +69,8 @@ fn with_clashing(all: ModeSet, modes: ModeSet, mode: Mode) -> ModeSet
     }
 }
 
-/// Adds to `text` who waits where the modes `stopped` are kept waiting, or that only `DROP TABLE` and its like wait.
+/// Adds to `text` who waits where the modes `stopped` are kept waiting, or that only `DROP TABLE` and its
+/// like wait.
 pub fn push_waiting(text: &mut String, stopped: ModeSet) -> Result<(), AllocError> {
     let mut is_first = true;
     for others in &OTHERS {
@@ -84,7 +86,8 @@ pub fn push_waiting(text: &mut String, stopped: ModeSet) -> Result<(), AllocErro
     Ok(())
 }
 
-/// Adds to `text` the sessions behind which a statement waits if they came before it, where the statement keeps the modes `stopped` waiting.
+/// Adds to `text` the sessions behind which a statement waits if they came before it, where the statement
+/// keeps the modes `stopped` waiting.
 pub fn push_before(text: &mut String, stopped: ModeSet) -> Result<(), AllocError> {
     let mut is_first = true;
     for others in &OTHERS {
@@ -100,7 +103,8 @@ pub fn push_before(text: &mut String, stopped: ModeSet) -> Result<(), AllocError
     Ok(())
 }
 
-/// Adds to `text` the names of `modes`, the strongest first, without a mode that keeps nobody waiting whom the modes before it don't keep waiting.
+/// Adds to `text` the names of `modes`, the strongest first, without a mode that keeps nobody waiting whom
+/// the modes before it don't keep waiting.
 pub fn push_modes(text: &mut String, modes: ModeSet) -> Result<(), AllocError> {
     let mut shown = ModeSet::empty();
     let mut is_first = true;

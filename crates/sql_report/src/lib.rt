@@ -1,5 +1,5 @@
-//! What each SQL statement of a text locks, whom that keeps waiting, for how long, and until when: the subcommand `sql` as a
-//! function of its words and its streams.
+//! What each SQL statement of a text locks, whom that keeps waiting, for how long, and until when: the
+//! subcommand `sql` as a function of its words and its streams.
 #![tactic(auto)]
 
 mod effects;

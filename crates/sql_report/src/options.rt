@@ -53,7 +53,8 @@ Example:
 /// The word that asks for the subcommand.
 pub const SQL: &str = "sql";
 
-/// The subcommand `sql [--schema FILE] [--fail-on KIND] [--single-transaction]` of `lock_scenario`, in memory of `alloc`.
+/// The subcommand `sql [--schema FILE] [--fail-on KIND] [--single-transaction]` of `lock_scenario`, in memory
+/// of `alloc`.
 pub fn sql_command<'a>(alloc: Global) -> Result<Command<'a>, AllocError> {
     let schema = Arg::new(alloc, "schema")
         .long("schema")
@@ -85,7 +86,8 @@ pub fn parse_options(alloc: Global, words: &[String]) -> SqlTask {
     }
 }
 
-/// The task of words that ask for no report, by the `error` that `clap` has for them: a text of help, or a refusal.
+/// The task of words that ask for no report, by the `error` that `clap` has for them: a text of help, or a
+/// refusal.
 fn task_of_error(alloc: Global, error: &Error) -> SqlTask {
     if error.kind() == ErrorKind::OutOfMemory {
         return SqlTask::NoMemory;

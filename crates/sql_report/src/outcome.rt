@@ -20,7 +20,8 @@ pub struct Outcome {
     pub stopped: ModeSet,
 }
 
-/// How long a statement works, until when it holds its locks, and for whom it waits beside its waits for locks.
+/// How long a statement works, until when it holds its locks, and for whom it waits beside its waits for
+/// locks.
 #[derive(Clone, Copy)]
 pub struct Effort {
     pub work: Work,
@@ -28,8 +29,8 @@ pub struct Effort {
     pub awaits: Awaits,
 }
 
-/// What the forms `acts` of a statement come to, with these `relations` and their `links`. Where a form has no row in the table the error is
-/// `unknown`.
+/// What the forms `acts` of a statement come to, with these `relations` and their `links`. Where a form has
+/// no row in the table the error is `unknown`.
 pub fn outcome_of(
     alloc: Global,
     relations: &[Relation],
@@ -50,7 +51,8 @@ pub fn outcome_of(
     })
 }
 
-/// The locks of the forms `acts` over these `links`, one form after another, or `unknown` where a form has no row in the table.
+/// The locks of the forms `acts` over these `links`, one form after another, or `unknown` where a form has no
+/// row in the table.
 pub fn locks_of_acts(
     alloc: Global,
     links: &[Link],
@@ -70,7 +72,8 @@ pub fn locks_of_acts(
     Ok(locks)
 }
 
-/// The modes that `locks` keep waiting: those that conflict with one of them on a relation of `relations` that others know.
+/// The modes that `locks` keep waiting: those that conflict with one of them on a relation of `relations`
+/// that others know.
 pub fn stopped_by(relations: &[Relation], locks: &[Lock]) -> ModeSet
     ensures { (mode : _) → set_has result mode ≡ keep_waiting relations.now locks.now mode }
 {
@@ -93,7 +96,8 @@ fn with_stopped(stopped: ModeSet, relations: &[Relation], lock: &Lock) -> ModeSe
     }
 }
 
-/// Whether others know the relation `number` of `relations`: a relation that the open transaction made itself is known to that transaction alone.
+/// Whether others know the relation `number` of `relations`: a relation that the open transaction made itself
+/// is known to that transaction alone.
 pub fn are_known(relations: &[Relation], number: usize) -> bool
     ensures { result ≡ others_know relations.now number }
 {

@@ -30,7 +30,8 @@ pub struct Answer {
 pub struct Report {
     /// What is said of each statement, in the order of the statements.
     pub answers: Vec<Answer>,
-    /// The lines of the statements that keep reads of a relation waiting that others know, and of those that keep writes of such a relation waiting.
+    /// The lines of the statements that keep reads of a relation waiting that others know, and of those that
+    /// keep writes of such a relation waiting.
     pub reads: Vec<usize>,
     pub writes: Vec<usize>,
     /// All that is printed: the answers' texts, and sums after them.
@@ -83,8 +84,8 @@ struct Writer {
     is_in_transaction: bool,
 }
 
-/// Says of each statement of `migration` what it locks, where the statements of `schema` were run before. Where `is_single`, all statements of `migration`
-/// are one transaction.
+/// Says of each statement of `migration` what it locks, where the statements of `schema` were run before.
+/// Where `is_single`, all statements of `migration` are one transaction.
 pub fn make_report(
     alloc: Global,
     schema: &[u8],
@@ -111,8 +112,8 @@ pub fn make_report(
     }
 }
 
-/// Whether a transaction is open after a statement that does `control` to it, where `was_open` says whether one was open before the statement, and
-/// `is_single` whether all statements are one transaction.
+/// Whether a transaction is open after a statement that does `control` to it, where `was_open` says whether
+/// one was open before the statement, and `is_single` whether all statements are one transaction.
 pub fn is_open_after(control: Control, was_open: bool, is_single: bool) -> bool
     ensures { result ≡ transaction_after is_single was_open control }
 {
@@ -200,7 +201,8 @@ impl Writer {
         )
     }
 
-    /// What is printed of the statement that was read last, which begins on `line` as `title` and comes to `outcome`.
+    /// What is printed of the statement that was read last, which begins on `line` as `title` and comes to
+    /// `outcome`.
     fn text_of(&self, line: usize, title: &str, outcome: &Outcome) -> Result<String, AllocError> {
         let mut text = format!(in self.alloc; "line {line}: {title}\n")?;
         if !outcome.locks.is_empty() {
@@ -211,8 +213,8 @@ impl Writer {
         Ok(text)
     }
 
-    /// Adds to `text` the modes on each relation of `locks`, in the order of the relations' first locks, and answers whether others know one of these
-    /// relations.
+    /// Adds to `text` the modes on each relation of `locks`, in the order of the relations' first locks, and
+    /// answers whether others know one of these relations.
     fn push_locks(&self, text: &mut String, locks: &[Lock]) -> Result<bool, AllocError> {
         let relations = self.reader.catalog.relations.as_slice();
         let mut is_known = false;
@@ -234,8 +236,8 @@ impl Writer {
         Ok(is_known)
     }
 
-    /// Adds to `text` how long the statement of `outcome` works, and whom it keeps waiting where `are_known` says that
-    /// others know what it locks.
+    /// Adds to `text` how long the statement of `outcome` works, and whom it keeps waiting where `are_known`
+    /// says that others know what it locks.
     fn push_effort(
         &self,
         text: &mut String,
@@ -263,7 +265,8 @@ impl Writer {
         Ok(())
     }
 
-    /// Adds to `text` the advisory locks that the statement that was read last takes, and those that it gives back.
+    /// Adds to `text` the advisory locks that the statement that was read last takes, and those that it gives
+    /// back.
     fn push_advisory(&self, text: &mut String) -> Result<(), AllocError> {
         for lock in &self.reader.advisory {
             let words = &self.reader.cursor.words;
@@ -332,7 +335,8 @@ fn texts_of(alloc: Global, answers: &[Answer]) -> Result<String, AllocError>
     Ok(text)
 }
 
-/// What all statements come to, `count` of them, of which those on the lines `reads` and `writes` keep reads and writes waiting.
+/// What all statements come to, `count` of them, of which those on the lines `reads` and `writes` keep reads
+/// and writes waiting.
 fn sums_of(
     alloc: Global,
     count: usize,

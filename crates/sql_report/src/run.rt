@@ -9,8 +9,9 @@ use std::fs;
 use std::io::{Read, Write};
 use std::rt::Files;
 
-/// The statuses of the subcommand `sql`, from 0 to 4: success, a fault of input, output or memory, refused words, a bad statement or one whose locks are not
-/// known, and a statement that keeps those waiting whom `--fail-on` names.
+/// The statuses of the subcommand `sql`, from 0 to 4: success, a fault of input, output or memory, refused
+/// words, a bad statement or one whose locks are not known, and a statement that keeps those waiting whom
+/// `--fail-on` names.
 const SUCCESS: u8 = 0;
 
 const FAILED: u8 = 1;
@@ -21,9 +22,10 @@ const BAD_STATEMENT: u8 = 3;
 
 const KEEPS_WAITING: u8 = 4;
 
-/// Says to `output` what each statement of `input` locks, and answers the status: 0, 1 for a fault of input, output or memory, 2 for refused
-/// words, 3 for a bad statement or one whose locks are not known, and 4 where a statement keeps those waiting whom the words name. The first two
-/// of `words` are the program's name and the subcommand. What is wrong goes to `errors`; files are read by `rt`.
+/// Says to `output` what each statement of `input` locks, and answers the status: 0, 1 for a fault of input,
+/// output or memory, 2 for refused words, 3 for a bad statement or one whose locks are not known, and 4 where
+/// a statement keeps those waiting whom the words name. The first two of `words` are the program's name and
+/// the subcommand. What is wrong goes to `errors`; files are read by `rt`.
 pub fn run_sql<H: AllocGlobal + Files, R: Read, W: Write, E: Write>(
     rt: &H,
     words: &[String],
@@ -47,8 +49,8 @@ pub fn run_sql<H: AllocGlobal + Files, R: Read, W: Write, E: Write>(
     }
 }
 
-/// Reads the schema that `options` names, and the migration of `input`, prints on `output` what is said of the migration, or on `errors` why nothing is, and
-/// answers the status. `rt` reads the files.
+/// Reads the schema that `options` names, and the migration of `input`, prints on `output` what is said of
+/// the migration, or on `errors` why nothing is, and answers the status. `rt` reads the files.
 fn run_report<H: AllocGlobal + Files, R: Read, W: Write, E: Write>(
     rt: &H,
     options: &SqlOptions,

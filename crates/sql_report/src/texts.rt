@@ -7,7 +7,8 @@ use strsim::jaro_winkler;
 /// How many bytes of a statement or a word are shown at most.
 const MOST_SHOWN: usize = 72;
 
-/// What is shown of the part of `text` between `from` and `to`: no more than its first line, and at most `MOST_SHOWN` bytes.
+/// What is shown of the part of `text` between `from` and `to`: no more than its first line, and at most
+/// `MOST_SHOWN` bytes.
 pub fn shown(alloc: Global, text: &[u8], from: usize, to: usize) -> Result<String, AllocError> {
     let all = text.get(from..to).unwrap_or(b"");
     let mut end = 0usize;
@@ -129,7 +130,8 @@ fn rank(work: Work) -> u8 {
     }
 }
 
-/// Until when locks are held by `until`, in words, where `is_in_transaction` says whether a transaction is open.
+/// Until when locks are held by `until`, in words, where `is_in_transaction` says whether a transaction is
+/// open.
 pub fn until_text(until: Until, is_in_transaction: bool) -> &'static str {
     match until {
         Until::Commit if is_in_transaction => "COMMIT",

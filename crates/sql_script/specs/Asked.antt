@@ -20,7 +20,8 @@ stops locks relation mode = list_any (λ lock. (lock.relation == relation) && co
 abbrev pub is_covered : List Lock → Lock → Bool
 is_covered before lock = list_all (λ mode. not (conflict lock.mode mode) || stops before lock.relation mode) all_modes
 
--- the locks of the second list, which come after those of the first, that no earlier ones cover, in their order
+-- the locks of the second list, which come after those of the first, that no earlier ones cover, in their
+-- order
 abbrev pub asked_behind : List Lock → List Lock → List Lock
 asked_behind before [] = []
 asked_behind before (lock ∷ locks) =

@@ -19,7 +19,8 @@ is_on_one locks relation = list_any (λ lock. lock.relation == relation) locks
 abbrev pub has_used : List Lock → ScriptSession → Bool
 has_used locks session = list_any (λ used. is_on_one locks used.relation) session.used.items
 
--- whether the open transaction of a session has a lock on a relation of these locks that keeps an index build waiting
+-- whether the open transaction of a session has a lock on a relation of these locks that keeps an index build
+-- waiting
 abbrev pub has_written : List Lock → ScriptSession → Bool
 has_written locks session = list_any (λ used. conflict Share used.mode && is_on_one locks used.relation) session.used.items
 
@@ -30,7 +31,8 @@ is_awaited awaits.Writers locks session = session.has_snapshot || has_written lo
 is_awaited awaits.Users locks session = has_used locks session
 is_awaited awaits.UsersAndSnapshots locks session = session.has_snapshot || has_used locks session
 
--- the lock of a session's open transaction, where a statement of a database waits for the end of that transaction
+-- the lock of a session's open transaction, where a statement of a database waits for the end of that
+-- transaction
 abbrev pub awaited_in : ℕ → Awaits → List Lock → ScriptSession → Option Tag
 awaited_in database its locks session =
     if (session.database == database) && is_awaited its locks session then session.transaction else None

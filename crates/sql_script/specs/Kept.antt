@@ -9,7 +9,8 @@ use Rattle.sql_script.specs.declared.steps.Step.{Step}
 abbrev pub is_kept : Lock → Bool
 is_kept lock = conflict lock.mode lock.mode
 
--- the steps by which a session of a database takes a lock: its transaction takes it, and so does the session itself where it keeps the lock
+-- the steps by which a session of a database takes a lock: its transaction takes it, and so does the session
+-- itself where it keeps the lock
 abbrev pub keeping_steps : ℕ → Lock → List Step
 keeping_steps database lock =
     if is_kept lock then (step_of database asking.Wait lock ∷ step_of database asking.Own lock ∷ []) else (step_of database asking.Wait lock ∷ [])

@@ -63,8 +63,8 @@ IsToPlay sessions name Are heard =
     (said : Statements) × (heard ≡ heard_.Statements said) × (string_bytes said.session ≡ name)
     × ((database : ℕ) × (database_called sessions name ≡ Some database) × Are database said.turns.items)
 
--- What is heard of a line outside of a schema: of a `do` or `work` line its own statements, of a `done` line the end of the statement at which the session
--- works. Other lines are plain ones.
+-- What is heard of a line outside of a schema: of a `do` or `work` line its own statements, of a `done` line
+-- the end of the statement at which the session works. Other lines are plain ones.
 abbrev pub IsHeardAs : Verb → List ScriptSession → List ℕ → Heard → Type 0
 IsHeardAs verb.Schema sessions behind heard = heard ≡ heard_.Schema
 IsHeardAs verb.Do sessions behind heard =
@@ -89,7 +89,8 @@ SaysNoMore verb.Schema behind = is_blank behind ≡ true
 SaysNoMore verb.Done behind = (is_blank (behind_semicolon (first_word behind)) ≡ true) × (is_blank (behind_word behind) ≡ true)
 SaysNoMore _ behind = ⊤
 
--- No text of a line is dropped: behind a `schema` and the `end` of one nothing stands, nor behind the name of a `done` line.
+-- No text of a line is dropped: behind a `schema` and the `end` of one nothing stands, nor behind the name of
+-- a `done` line.
 abbrev pub DropsNoText : Known → List ℕ → Type 0
 DropsNoText known line =
     MatchBool known.in_schema (bytes_eq (first_word line) (codes "end") ≡ true → is_blank (behind_word line) ≡ true)

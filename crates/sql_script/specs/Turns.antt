@@ -29,14 +29,14 @@ abbrev pub begun_by : Option Tag → List Step
 begun_by None = []
 begun_by (Some tag) = step.Lock tag Exclusive Transaction ∷ []
 
--- what is played for a statement that takes locks: its own transaction begins, if it has a lock; then a step for each of its locks that no
--- earlier one covers, and what it takes beside them
+-- what is played for a statement that takes locks: its own transaction begins, if it has a lock; then a step
+-- for each of its locks that no earlier one covers, and what it takes beside them
 abbrev pub taken_for : ℕ → Manner → List Lock → List Step → List Step
 taken_for database manner locks others =
     (begun_by manner.begins ++ map (step_of database manner.asking) (asked_behind [] locks)) ++ others
 
--- what is played for a statement whose locks the session owns itself: a step for each that no earlier one covers, and the waits for the ends of
--- these transactions
+-- what is played for a statement whose locks the session owns itself: a step for each that no earlier one
+-- covers, and the waits for the ends of these transactions
 abbrev pub owned_for : ℕ → List Lock → List Tag → List Step
 owned_for database locks awaited = map (step_of database asking.Own) (asked_behind [] locks) ++ map await_step awaited
 
@@ -44,8 +44,8 @@ owned_for database locks awaited = map (step_of database asking.Own) (asked_behi
 abbrev pub transaction_for : ℕ → List Lock → List Step
 transaction_for database locks = map (step_of database asking.Wait) (asked_behind [] locks) ++ step.Commit ∷ []
 
--- what is played for a statement of two transactions, of which the first takes two of its locks and the second the others: between them the
--- ends of these transactions are waited for, and nothing of that is kept
+-- what is played for a statement of two transactions, of which the first takes two of its locks and the
+-- second the others: between them the ends of these transactions are waited for, and nothing of that is kept
 abbrev pub parted_for : ℕ → List Lock → List Tag → List Step
 parted_for database locks awaited =
     (transaction_for database (take 2 locks) ++ flat_map pass_steps awaited) ++ map (step_of database asking.Wait) (asked_behind [] (drop 2 locks))
@@ -96,8 +96,8 @@ end_for database manner locks = end_under manner.control database manner locks
 abbrev pub played_for : ℕ → Manner → List Lock → List Step → List Tag → List Step
 played_for database manner locks others awaited = work_for database manner locks others awaited ++ end_for database manner locks
 
--- what is played where a statement's work is done, of which this is left: where the ends of some transactions are waited for then, its transaction
--- ends and the next one waits, and what is left stays
+-- what is played where a statement's work is done, of which this is left: where the ends of some transactions
+-- are waited for then, its transaction ends and the next one waits, and what is left stays
 abbrev pub resumed_for : List Step → List Tag → List Step
 resumed_for left [] = left
 resumed_for left (tag ∷ awaited) = step.Commit ∷ map await_step (tag ∷ awaited)
@@ -115,8 +115,9 @@ abbrev pub left_for : Bool → ℕ → Manner → List Lock → List Step
 left_for true database manner locks = end_for database manner locks
 left_for false database manner locks = []
 
--- A turn has the locks of some forms, and takes no lock for a transaction but its own. Where its statement works until a later line its end is left, and
--- else nothing. What it plays and what is left, one after the other, are just what its statement comes to.
+-- A turn has the locks of some forms, and takes no lock for a transaction but its own. Where its statement
+-- works until a later line its end is left, and else nothing. What it plays and what is left, one after the
+-- other, are just what its statement comes to.
 abbrev pub IsTurn : ℕ → Bool → Turn → Type 0
 IsTurn database works turn =
     HasForms turn.locks.items × IfSome turn.manner.begins (IsOwnLock database)
@@ -127,7 +128,8 @@ IsTurn database works turn =
 abbrev pub line_of_turn : Turn → ℕ
 line_of_turn turn = turn.line
 
--- Turns are those of the statements of a text, which work until a later line or not: of each one, in their order, with its line.
+-- Turns are those of the statements of a text, which work until a later line or not: of each one, in their
+-- order, with its line.
 abbrev pub AreTurnsOf : ℕ → Bool → List ℕ → List Turn → Type 0
 AreTurnsOf database works text turns =
     (statements : List SqlStatement) × AreStatementsOf text statements × All IsPlaced statements

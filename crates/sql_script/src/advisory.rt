@@ -6,7 +6,8 @@ use modes_core::{Mode, Owner, Tag};
 use sql_statements::{Advisory, SqlWord, has_part};
 use std::alloc::Global;
 
-/// The steps by which a session of `database` takes the advisory locks `taken` or gives them back. Their functions and keys are among `words`.
+/// The steps by which a session of `database` takes the advisory locks `taken` or gives them back. Their
+/// functions and keys are among `words`.
 pub fn advisory_steps(
     alloc: Global,
     database: u32,
@@ -20,9 +21,9 @@ pub fn advisory_steps(
     Ok(steps)
 }
 
-/// The step by which a session of `database` takes the advisory lock `taken` or gives it back, whose function and keys are among `words`. The lock tag of one
-/// key has the two halves of its 64 bits and a 1 after them, that of two keys has both and a 2 after them (`SET_LOCKTAG_INT64` and `SET_LOCKTAG_INT32` in
-/// lockfuncs.c).
+/// The step by which a session of `database` takes the advisory lock `taken` or gives it back, whose function
+/// and keys are among `words`. The lock tag of one key has the two halves of its 64 bits and a 1 after them,
+/// that of two keys has both and a 2 after them (`SET_LOCKTAG_INT64` and `SET_LOCKTAG_INT32` in lockfuncs.c).
 fn advisory_step(database: u32, words: &[SqlWord], taken: &Advisory) -> Result<Step, ScriptFault> {
     let function = match words.get(taken.function) {
         Some(word) => word.text.as_str(),

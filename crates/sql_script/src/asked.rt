@@ -107,8 +107,8 @@ pub fn asking_step(tag: Tag, mode: Mode, asking: Asking) -> Step
     }
 }
 
-/// The lock tag of the relation of the number `relation` in `database`. Where `relation` is beyond the number of any lock tag, the error is being out of
-/// memory: there are more relations than memory holds.
+/// The lock tag of the relation of the number `relation` in `database`. Where `relation` is beyond the number
+/// of any lock tag, the error is being out of memory: there are more relations than memory holds.
 pub fn tag_of(database: u32, relation: usize) -> Result<Tag, SqlFault>
     ensures { IfOk result (λ tag. tag ≡ Tag.Relation database (16384 + relation)) }
 {

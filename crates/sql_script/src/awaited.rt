@@ -15,15 +15,19 @@ use std::alloc::{AllocError, Global};
 pub enum Course {
     /// The statement runs within one transaction.
     Within,
-    /// The statement runs within one transaction, and the session owns locks beside that transaction: as for `VACUUM`.
+    /// The statement runs within one transaction, and the session owns locks beside that transaction: as for
+    /// `VACUUM`.
     Kept,
-    /// The session owns the statement's locks, and its transaction waits for the ends of other transactions: as for `CREATE INDEX CONCURRENTLY`.
+    /// The session owns the statement's locks, and its transaction waits for the ends of other transactions:
+    /// as for `CREATE INDEX CONCURRENTLY`.
     Owned,
-    /// The statement runs in two transactions, and waits between them for the ends of others: as `DETACH PARTITION CONCURRENTLY`.
+    /// The statement runs in two transactions, and waits between them for the ends of others: as `DETACH
+    /// PARTITION CONCURRENTLY`.
     Parted,
 }
 
-/// The locks of the open transactions of `sessions` in `database` for whose end a statement waits that awaits `awaits` and has the locks `locks`.
+/// The locks of the open transactions of `sessions` in `database` for whose end a statement waits that awaits
+/// `awaits` and has the locks `locks`.
 pub fn awaited_of(
     alloc: Global,
     sessions: &[ScriptSession],
@@ -42,8 +46,8 @@ pub fn awaited_of(
     Ok(tags)
 }
 
-/// The lock of the open transaction of `session`, if a statement in `database` that awaits `awaits` and has the locks `locks` waits for the end of that
-/// transaction.
+/// The lock of the open transaction of `session`, if a statement in `database` that awaits `awaits` and has
+/// the locks `locks` waits for the end of that transaction.
 fn awaited_in(session: &ScriptSession, database: u32, awaits: Awaits, locks: &[Lock]) -> Option<Tag>
     ensures { result ≡ awaited_in database awaits locks.now session.now }
 {
@@ -76,7 +80,8 @@ fn has_used(session: &ScriptSession, locks: &[Lock]) -> bool
         .any(|used| is_on_one(locks, used.relation))
 }
 
-/// Whether the open transaction of `session` has a lock on a relation of `locks` that keeps an index build waiting, as a writer has.
+/// Whether the open transaction of `session` has a lock on a relation of `locks` that keeps an index build
+/// waiting, as a writer has.
 fn has_written(session: &ScriptSession, locks: &[Lock]) -> bool
     ensures { result ≡ has_written locks.now session.now }
 {
@@ -90,7 +95,8 @@ fn is_on_one(locks: &[Lock], relation: usize) -> bool
     locks.iter().any(|lock| lock.relation == relation)
 }
 
-/// The steps by which a transaction waits for the ends of the transactions whose locks are `tags`: it takes each of these locks, and keeps it.
+/// The steps by which a transaction waits for the ends of the transactions whose locks are `tags`: it takes
+/// each of these locks, and keeps it.
 pub fn waits_of(alloc: Global, tags: &Vec<Tag>) -> Result<Vec<Step>, SqlFault>
     ensures { IfOk result (λ steps. steps.items ≡ map await_step tags.now.items) }
 {
@@ -101,7 +107,8 @@ pub fn waits_of(alloc: Global, tags: &Vec<Tag>) -> Result<Vec<Step>, SqlFault>
     Ok(steps)
 }
 
-/// The steps by which a transaction waits for the ends of the transactions whose locks are `tags`, and keeps none of these locks.
+/// The steps by which a transaction waits for the ends of the transactions whose locks are `tags`, and keeps
+/// none of these locks.
 pub fn passes_of(alloc: Global, tags: &Vec<Tag>) -> Result<Vec<Step>, SqlFault>
     ensures { IfOk result (λ steps. steps.items ≡ flat_map pass_steps tags.now.items) }
 {
@@ -113,8 +120,8 @@ pub fn passes_of(alloc: Global, tags: &Vec<Tag>) -> Result<Vec<Step>, SqlFault>
     Ok(steps)
 }
 
-/// The step by which a session waits for the end of the transaction whose lock is `tag`, as the server does for a virtual transaction
-/// (`VirtualXactLock` in lock.c).
+/// The step by which a session waits for the end of the transaction whose lock is `tag`, as the server does
+/// for a virtual transaction (`VirtualXactLock` in lock.c).
 fn await_step(tag: Tag) -> Step
     ensures { result ≡ await_step tag }
 {

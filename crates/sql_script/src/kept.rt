@@ -9,8 +9,8 @@ use crate::steps::Step;
 use sql_locks::{Lock, SqlFault};
 use std::alloc::{AllocError, Global};
 
-/// The steps by which a session of `database` takes those of `locks` that no earlier ones cover: its transaction takes each, and the session itself
-/// those that it keeps (`vacuum_rel` in vacuum.c).
+/// The steps by which a session of `database` takes those of `locks` that no earlier ones cover: its
+/// transaction takes each, and the session itself those that it keeps (`vacuum_rel` in vacuum.c).
 pub fn kept_steps_of(alloc: Global, database: u32, locks: &[Lock]) -> Result<Vec<Step>, SqlFault>
     ensures { IfOk result (λ steps. steps.items ≡ flat_map (keeping_steps database) (asked_behind [] locks.now)) }
 {
@@ -36,7 +36,8 @@ fn keeping_steps(alloc: Global, database: u32, lock: &Lock) -> Result<Vec<Step>,
     Ok(steps)
 }
 
-/// The locks among `locks` that no earlier ones of the list cover, and that the session keeps beside its transaction.
+/// The locks among `locks` that no earlier ones of the list cover, and that the session keeps beside its
+/// transaction.
 pub fn kept_of(alloc: Global, locks: &[Lock]) -> Result<Vec<Lock>, AllocError>
     ensures { IfOk result (λ kept. kept.items ≡ filter is_kept (asked_behind [] locks.now)) }
 {
@@ -50,8 +51,8 @@ pub fn kept_of(alloc: Global, locks: &[Lock]) -> Result<Vec<Lock>, AllocError>
     Ok(kept)
 }
 
-/// Whether the session keeps `lock` beside its transaction: whether the lock's mode keeps itself waiting, as that on a table does and that on an index
-/// doesn't.
+/// Whether the session keeps `lock` beside its transaction: whether the lock's mode keeps itself waiting, as
+/// that on a table does and that on an index doesn't.
 fn is_kept(lock: &Lock) -> bool
     ensures { result ≡ is_kept lock.now }
 {

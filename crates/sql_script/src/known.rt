@@ -5,8 +5,9 @@ use crate::sessions::ScriptSession;
 use sql_locks::{Link, Lock};
 use std::alloc::{AllocError, Global};
 
-/// The links among `links` that a statement of the session named `name` knows, where `locks` are those that it has if it knows all links. What the open
-/// transaction of another one of `sessions` made is known to the statement only where it waits for the end of that transaction.
+/// The links among `links` that a statement of the session named `name` knows, where `locks` are those that
+/// it has if it knows all links. What the open transaction of another one of `sessions` made is known to the
+/// statement only where it waits for the end of that transaction.
 pub fn known_links(
     alloc: Global,
     links: &[Link],
@@ -24,7 +25,8 @@ pub fn known_links(
     Ok(known)
 }
 
-/// Whether one of `locks` has to wait for a lock of the open transaction of `session`, on a relation that this transaction did not make.
+/// Whether one of `locks` has to wait for a lock of the open transaction of `session`, on a relation that
+/// this transaction did not make.
 fn waits_for(session: &ScriptSession, locks: &[Lock]) -> bool {
     for used in &session.used {
         if !has_made(session, used.relation) && is_stopped(used, locks) {

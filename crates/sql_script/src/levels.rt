@@ -6,8 +6,9 @@ use crate::steps::Step;
 use sql_statements::SqlWord;
 use std::alloc::{AllocError, Global};
 
-/// What `session` plays for the statement of `words`, which sets a savepoint, releases one or goes back to one. Releasing or going back to a savepoint ends
-/// those set after it too, and a savepoint that is gone back to begins anew.
+/// What `session` plays for the statement of `words`, which sets a savepoint, releases one or goes back to
+/// one. Releasing or going back to a savepoint ends those set after it too, and a savepoint that is gone back
+/// to begins anew.
 pub fn level_steps(
     alloc: Global,
     session: &mut ScriptSession,

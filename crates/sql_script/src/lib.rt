@@ -1,4 +1,5 @@
-//! SQL in scripts: the tables that a script's `schema` makes, and what a session plays for the statements of `do` and `work` lines.
+//! SQL in scripts: the tables that a script's `schema` makes, and what a session plays for the statements of
+//! `do` and `work` lines.
 #![tactic(auto)]
 
 mod advisory;

@@ -46,7 +46,8 @@ impl From<AllocError> for Unplayed {
 }
 
 impl Unplayed {
-    /// Why the SQL `text`, whose first line has the number `first` in its script, can't be played: it has the fault `fault`.
+    /// Why the SQL `text`, whose first line has the number `first` in its script, can't be played: it has the
+    /// fault `fault`.
     fn of(alloc: Global, first: u32, text: &[u8], fault: ScriptFault) -> Self {
         match fault.told(alloc, first as usize, text) {
             Ok(told) => Unplayed::Told(told),
@@ -65,8 +66,9 @@ pub struct Schema {
 }
 
 impl SqlScript {
-    /// Takes in the line `line` of the number `number` of a script, and says what it is: of a `do` or `work` line what its own statements come to, and of
-    /// a `done` line what is left of the statement at which its session works. Lines that open and close sessions are plain ones.
+    /// Takes in the line `line` of the number `number` of a script, and says what it is: of a `do` or `work`
+    /// line what its own statements come to, and of a `done` line what is left of the statement at which its
+    /// session works. Lines that open and close sessions are plain ones.
     pub fn hear(&mut self, number: u32, line: &str) -> Result<Heard, Unplayed>
         ensures heard { IfOk result (IsHeardOf self.old line.now) }
         ensures whole { OnOk result (DropsNoText self.old line.now) }
@@ -128,7 +130,8 @@ impl SqlScript {
         });
     }
 
-    /// Takes in `line`, one of a schema. Where `is_end`, the line ends the schema, and the schema's statements are run.
+    /// Takes in `line`, one of a schema. Where `is_end`, the line ends the schema, and the schema's
+    /// statements are run.
     fn hear_schema(&mut self, line: &str, is_end: bool) -> Result<(), Unplayed> {
         let Some(mut schema) = self.schema.take() else {
             return Ok(());
@@ -147,8 +150,8 @@ impl SqlScript {
         }
     }
 
-    /// Opens the session `name` in the database that the first word of `text` says, if that word is a number: else the line is a bad one, and nothing is
-    /// opened.
+    /// Opens the session `name` in the database that the first word of `text` says, if that word is a number:
+    /// else the line is a bad one, and nothing is opened.
     fn hear_opening(&mut self, name: &str, text: &str) -> Result<(), AllocError> {
         match cut_word(text).0.parse::<u32>() {
             Ok(database) => self.open(name, database),
@@ -156,8 +159,8 @@ impl SqlScript {
         }
     }
 
-    /// What the session named `name` plays for the statements `text` of the line of the number `number`. Where `works`, `text` is one statement, at which the
-    /// session works until a later line.
+    /// What the session named `name` plays for the statements `text` of the line of the number `number`.
+    /// Where `works`, `text` is one statement, at which the session works until a later line.
     fn hear_statements(
         &mut self,
         number: u32,
@@ -181,8 +184,8 @@ impl SqlScript {
         }
     }
 
-    /// What the session named `name`, one of `database`, plays for the statements `text`. Where `works`, `text` is one statement, at which the session works
-    /// until a later line.
+    /// What the session named `name`, one of `database`, plays for the statements `text`. Where `works`,
+    /// `text` is one statement, at which the session works until a later line.
     fn turns_for(
         &mut self,
         name: &str,
@@ -199,7 +202,8 @@ impl SqlScript {
         }
     }
 
-    /// What the session named `name` plays where the line of the number `number` says that the work of its statement is done.
+    /// What the session named `name` plays where the line of the number `number` says that the work of its
+    /// statement is done.
     fn hear_end(&mut self, number: u32, name: &str) -> Result<Heard, Unplayed>
         ensures { IfOk result (IsToPlay self.old.sessions name.now
             (λ database. IsPlayedAtEnd database self.old.sessions (work_called self.old.sessions name.now))) }
@@ -213,8 +217,9 @@ impl SqlScript {
         }
     }
 
-    /// The database of the session named `name`, which the line of the number `number` names. Refused where there is no such session, and where whether the
-    /// session works at a statement is not as `is_at_work` says.
+    /// The database of the session named `name`, which the line of the number `number` names. Refused where
+    /// there is no such session, and where whether the session works at a statement is not as `is_at_work`
+    /// says.
     fn worker(&self, number: u32, name: &str, is_at_work: bool) -> Result<u32, Unplayed>
         ensures { IfOk result (λ database. database_called self.now.sessions name.now ≡ Some database) }
     {

@@ -19,7 +19,8 @@ use sql_statements::{Control, SqlWord};
 use std::alloc::AllocError;
 
 impl SqlScript {
-    /// The locks of the statement that was read, said by the session named `name`, in the order of the server.
+    /// The locks of the statement that was read, said by the session named `name`, in the order of the
+    /// server.
     pub(crate) fn locks(&self, name: &str) -> Result<Vec<Lock>, ScriptFault>
         ensures { IfOk result (λ locks. HasForms locks.items) }
     {
@@ -37,8 +38,9 @@ impl SqlScript {
         Ok(locks_of_acts(self.alloc, known.as_slice(), acts, unknown)?)
     }
 
-    /// How the statement that was read goes through transactions, where the session named `name` says it. A fault where that session has a transaction open
-    /// and the statement may have none around it, and where the statement waits for the ends of transactions and these have no locks.
+    /// How the statement that was read goes through transactions, where the session named `name` says it. A
+    /// fault where that session has a transaction open and the statement may have none around it, and where
+    /// the statement waits for the ends of transactions and these have no locks.
     fn course(&self, name: &str) -> Result<Course, ScriptFault> {
         let mut course = Course::Within;
         for act in &self.reader.acts {
@@ -61,8 +63,9 @@ impl SqlScript {
         Ok(course)
     }
 
-    /// The locks of the transactions for whose end the statement that was read waits, which is in `database` and has the locks `locks`. Transactions that
-    /// have used a partition alone are in nobody's way while that partition is detached.
+    /// The locks of the transactions for whose end the statement that was read waits, which is in `database`
+    /// and has the locks `locks`. Transactions that have used a partition alone are in nobody's way while
+    /// that partition is detached.
     pub(crate) fn awaited(&self, database: u32, locks: &[Lock]) -> Result<Vec<Tag>, AllocError> {
         let mut awaits = Awaits::Nobody;
         let mut tables = locks;
@@ -93,7 +96,8 @@ impl SqlScript {
         }
     }
 
-    /// What the session named `name`, one of `database`, plays beside the locks of the statement that was read.
+    /// What the session named `name`, one of `database`, plays beside the locks of the statement that was
+    /// read.
     pub(crate) fn others(&mut self, name: &str, database: u32) -> Result<Vec<Step>, ScriptFault> {
         if self.reader.control == Control::Savepoint {
             return self.levels(name);
@@ -119,8 +123,9 @@ impl SqlScript {
         Ok(Vec::new(alloc))
     }
 
-    /// How the statement that was read is played by the session named `name`, one of `database`. The statement has the locks `locks` and plays `others`
-    /// beside them. Where `works`, the session works at the statement until a later line.
+    /// How the statement that was read is played by the session named `name`, one of `database`. The
+    /// statement has the locks `locks` and plays `others` beside them. Where `works`, the session works at
+    /// the statement until a later line.
     pub(crate) fn manner(
         &mut self,
         name: &str,
@@ -148,8 +153,9 @@ impl SqlScript {
         })
     }
 
-    /// The lock of the transaction that the statement that was read begins, said by the session named `name` of `database`, where transactions have one: an
-    /// advisory lock whose last number no function of the server gives. Where `begins_own`, a statement that is no `BEGIN` begins a transaction of its own.
+    /// The lock of the transaction that the statement that was read begins, said by the session named `name`
+    /// of `database`, where transactions have one: an advisory lock whose last number no function of the
+    /// server gives. Where `begins_own`, a statement that is no `BEGIN` begins a transaction of its own.
     fn begins(&mut self, name: &str, database: u32, begins_own: bool) -> Option<Tag>
         ensures { IfSome result (IsOwnLock database) }
     {
@@ -181,7 +187,8 @@ impl SqlScript {
         }
     }
 
-    /// Whether the statement that was read passes over tables that are locked: by `SKIP_LOCKED` of a `VACUUM` or an `ANALYZE`.
+    /// Whether the statement that was read passes over tables that are locked: by `SKIP_LOCKED` of a `VACUUM`
+    /// or an `ANALYZE`.
     fn skips_locked(&self) -> bool {
         let words = &self.reader.cursor.words;
         let Some(first) = words.first() else {

@@ -16,13 +16,15 @@ use sql_statements::{SqlStatement, SqlWord, StatementReader, split_statements};
 use std::alloc::{AllocError, Global};
 use std::marker::Model;
 
-/// What the SQL of a script made: tables, and the transactions of its sessions. Contracts see its sessions, and whether a schema is read.
+/// What the SQL of a script made: tables, and the transactions of its sessions. Contracts see its sessions,
+/// and whether a schema is read.
 #[derive(Drop)]
 pub struct SqlScript {
     pub(crate) alloc: Global,
     pub(crate) reader: StatementReader,
     pub(crate) sessions: Vec<ScriptSession>,
-    /// How many transactions have begun that have a lock of their own. It is none unless the schema says that each transaction that a `BEGIN` opens has one.
+    /// How many transactions have begun that have a lock of their own. It is none unless the schema says that
+    /// each transaction that a `BEGIN` opens has one.
     pub(crate) begun: Option<u32>,
     /// The schema whose lines are read now, if there is one.
     pub(crate) schema: Option<Schema>,
@@ -94,8 +96,8 @@ impl SqlScript {
             .position(|session| session.name.as_str() == name)
     }
 
-    /// What the session named `name`, one of `database`, plays for the statements `text`, a turn for each. Where one statement is bad nothing is to be
-    /// played.
+    /// What the session named `name`, one of `database`, plays for the statements `text`, a turn for each.
+    /// Where one statement is bad nothing is to be played.
     pub fn turns_of(
         &mut self,
         name: &str,
@@ -108,8 +110,9 @@ impl SqlScript {
         self.all_turns(name, database, statements, false)
     }
 
-    /// What the session named `name`, one of `database`, plays for the statement `text`, at which it works until a later line. What the session plays at the
-    /// statement's end is not played yet, but left. Refused where `text` is not one statement.
+    /// What the session named `name`, one of `database`, plays for the statement `text`, at which it works
+    /// until a later line. What the session plays at the statement's end is not played yet, but left. Refused
+    /// where `text` is not one statement.
     pub fn turns_at_work(
         &mut self,
         name: &str,
@@ -129,8 +132,8 @@ impl SqlScript {
         self.all_turns(name, database, statements, true)
     }
 
-    /// What the session named `name`, one of `database`, plays for `statements`, a turn for each. Where `works`, the session works at each until a later
-    /// line.
+    /// What the session named `name`, one of `database`, plays for `statements`, a turn for each. Where
+    /// `works`, the session works at each until a later line.
     fn all_turns(
         &mut self,
         name: &str,
@@ -149,7 +152,8 @@ impl SqlScript {
         Ok(turns)
     }
 
-    /// What the session named `name`, one of `database`, plays for `statement`. Where `works`, the session works at it until a later line.
+    /// What the session named `name`, one of `database`, plays for `statement`. Where `works`, the session
+    /// works at it until a later line.
     fn turn(
         &mut self,
         name: &str,
@@ -197,7 +201,8 @@ impl SqlScript {
         })
     }
 
-    /// What a statement in `database` locks, with names: first the transaction's lock `begins`, if there is one, and then each relation of `locks` once.
+    /// What a statement in `database` locks, with names: first the transaction's lock `begins`, if there is
+    /// one, and then each relation of `locks` once.
     fn named(
         &self,
         database: u32,
@@ -235,8 +240,8 @@ impl SqlScript {
         Ok(Some(Table { tag, name }))
     }
 
-    /// Has the tables, and the transaction of the session named `name`, be as the statement that was read leaves them, which has the locks `locks` and is
-    /// played in `manner`.
+    /// Has the tables, and the transaction of the session named `name`, be as the statement that was read
+    /// leaves them, which has the locks `locks` and is played in `manner`.
     fn settle(&mut self, name: &str, manner: Manner, locks: &[Lock]) -> Result<(), ScriptFault> {
         let alloc = self.alloc;
         if let Some(place) = self.place_of(name) {
@@ -249,8 +254,9 @@ impl SqlScript {
         Ok(())
     }
 
-    /// Notes the relations that the open transaction of the session named `name` made by the statement that was read, which is played in `manner`: all but
-    /// the first `known` ones. Where `works`, a transaction of the statement's own is open too, until a later line.
+    /// Notes the relations that the open transaction of the session named `name` made by the statement that
+    /// was read, which is played in `manner`: all but the first `known` ones. Where `works`, a transaction of
+    /// the statement's own is open too, until a later line.
     fn note_made(
         &mut self,
         name: &str,

@@ -21,8 +21,8 @@ pub struct ScriptSession {
     pub used: Vec<Lock>,
     /// Whether the session's open transaction reads all by one snapshot, as `REPEATABLE READ` does.
     pub repeats: bool,
-    /// Whether the session's open transaction has the one snapshot by which it reads all, or the statement at which the session works has a snapshot of its
-    /// own.
+    /// Whether the session's open transaction has the one snapshot by which it reads all, or the statement at
+    /// which the session works has a snapshot of its own.
     pub has_snapshot: bool,
     /// The numbers of the relations that the session's open transaction made.
     pub made: Vec<usize>,
@@ -35,7 +35,8 @@ pub struct ScriptSession {
 pub struct Work {
     /// What the session plays at the end of the statement.
     pub left: Vec<Step>,
-    /// Whether the session waits before the end of the statement for the transactions that have a snapshot by then.
+    /// Whether the session waits before the end of the statement for the transactions that have a snapshot by
+    /// then.
     pub awaits_snapshots: bool,
     /// Whether the session's transaction had a snapshot before the statement began.
     pub had_snapshot: bool,
@@ -66,8 +67,9 @@ impl ScriptSession {
         })
     }
 
-    /// Has the session's transaction be as a statement of `words` leaves it, which has the locks `locks` and does `control` to the transaction. The lock of a
-    /// transaction that the statement begins is `begins`, if any.
+    /// Has the session's transaction be as a statement of `words` leaves it, which has the locks `locks` and
+    /// does `control` to the transaction. The lock of a transaction that the statement begins is `begins`, if
+    /// any.
     pub fn follow(
         &mut self,
         alloc: Global,
@@ -114,8 +116,9 @@ impl ScriptSession {
         self.work = None;
     }
 
-    /// Has the session work at the statement of `words`, which has the locks `locks`, and at whose end `left` is played. Where `awaits_snapshots`, the
-    /// session waits before that end for the transactions that have a snapshot by then.
+    /// Has the session work at the statement of `words`, which has the locks `locks`, and at whose end `left`
+    /// is played. Where `awaits_snapshots`, the session waits before that end for the transactions that have
+    /// a snapshot by then.
     pub fn begin_work(
         &mut self,
         words: &[SqlWord],
@@ -138,8 +141,9 @@ impl ScriptSession {
         Ok(())
     }
 
-    /// Where `is_done`, has the session work at nothing. If the statement had a transaction of its own, that has ended, and else the session's transaction
-    /// has the snapshot that it had before. Where not `is_done`, the statement waits for no snapshot any more.
+    /// Where `is_done`, has the session work at nothing. If the statement had a transaction of its own, that
+    /// has ended, and else the session's transaction has the snapshot that it had before. Where not
+    /// `is_done`, the statement waits for no snapshot any more.
     pub fn leave_work(&mut self, alloc: Global, is_done: bool) {
         let Some(mut work) = self.work.take() else {
             return;
@@ -154,7 +158,8 @@ impl ScriptSession {
         }
     }
 
-    /// Notes whether the statement of `words` has the session's transaction read all by one snapshot, and whether it takes that snapshot.
+    /// Notes whether the statement of `words` has the session's transaction read all by one snapshot, and
+    /// whether it takes that snapshot.
     fn note_snapshot(&mut self, words: &[SqlWord]) {
         let Some(first) = words.first() else {
             return;

@@ -56,7 +56,8 @@ pub fn line_of(alloc: Global, session: &str, step: Step) -> Result<String, Alloc
     }
 }
 
-/// The word by which a line names the owner of a lock, `owner`, with a space before the word: none where the transaction owns the lock.
+/// The word by which a line names the owner of a lock, `owner`, with a space before the word: none where the
+/// transaction owns the lock.
 fn whose(owner: Owner) -> &'static str
     ensures { result.now ≡ text_of owner }
 {
@@ -66,7 +67,8 @@ fn whose(owner: Owner) -> &'static str
     }
 }
 
-/// The lines of a script by which the session named `session` plays `turns`: one for each of their steps, in order.
+/// The lines of a script by which the session named `session` plays `turns`: one for each of their steps, in
+/// order.
 pub fn lines_of(alloc: Global, session: &str, turns: &[Turn]) -> Result<Vec<String>, AllocError>
     ensures { IfOk result (λ lines. map string_bytes lines.items ≡ map (line_text session.now) (steps_in turns.now)) }
 {

@@ -19,11 +19,13 @@ pub struct Turn {
     pub manner: Manner,
     /// The locks of the statement, in the order of the server.
     pub locks: Vec<Lock>,
-    /// What the session plays beside the statement's locks on relations: the levels that a savepoint begins or ends, or advisory locks.
+    /// What the session plays beside the statement's locks on relations: the levels that a savepoint begins
+    /// or ends, or advisory locks.
     pub others: Vec<Step>,
     /// The locks of the transactions for whose end the statement waits.
     pub awaited: Vec<Tag>,
-    /// What the session plays for the statement, in order: all, or, where the session works at the statement until a later line, what comes before its end.
+    /// What the session plays for the statement, in order: all, or, where the session works at the statement
+    /// until a later line, what comes before its end.
     pub steps: Vec<Step>,
     /// What the session plays at the end of the statement, where that comes by a later line.
     pub left: Vec<Step>,
@@ -53,8 +55,9 @@ pub struct Manner {
     pub begins: Option<Tag>,
 }
 
-/// What a session of `database` plays for a statement with the locks `locks`, in `manner`, and `others` beside the locks, where the statement waits for the
-/// transactions whose locks are `awaited`: all but what ends the statement.
+/// What a session of `database` plays for a statement with the locks `locks`, in `manner`, and `others`
+/// beside the locks, where the statement waits for the transactions whose locks are `awaited`: all but what
+/// ends the statement.
 pub fn work_of(
     alloc: Global,
     database: u32,
@@ -84,8 +87,8 @@ pub fn work_of(
     }
 }
 
-/// What ends a statement with the locks `locks` of a session of `database`, in `manner`: the end of the statement's own transaction, and what the session
-/// gives back after that.
+/// What ends a statement with the locks `locks` of a session of `database`, in `manner`: the end of the
+/// statement's own transaction, and what the session gives back after that.
 pub fn end_of(
     alloc: Global,
     database: u32,
@@ -122,7 +125,8 @@ fn committed(alloc: Global, is_alone: bool) -> Result<Vec<Step>, SqlFault>
     Ok(steps)
 }
 
-/// The end of a transaction, after which a session of `database` gives back the locks `locks` that it owns itself.
+/// The end of a transaction, after which a session of `database` gives back the locks `locks` that it owns
+/// itself.
 fn given_back(alloc: Global, database: u32, locks: &Vec<Lock>) -> Result<Vec<Step>, SqlFault>
     ensures { IfOk result (λ steps. steps.items ≡ given_back database locks.now.items) }
 {
@@ -133,8 +137,9 @@ fn given_back(alloc: Global, database: u32, locks: &Vec<Lock>) -> Result<Vec<Ste
     Ok(steps)
 }
 
-/// What a session plays once the work of a statement is done, whose end is `left`. If there are transactions for which the statement then waits, their locks
-/// are `awaited`: a transaction waits for each of them, and the end comes later.
+/// What a session plays once the work of a statement is done, whose end is `left`. If there are transactions
+/// for which the statement then waits, their locks are `awaited`: a transaction waits for each of them, and
+/// the end comes later.
 pub fn resumed(alloc: Global, left: &Vec<Step>, awaited: &Vec<Tag>) -> Result<Vec<Step>, SqlFault>
     ensures { IfOk result (λ steps. steps.items ≡ resumed_for left.now.items awaited.now.items) }
 {
@@ -164,7 +169,8 @@ fn begun(alloc: Global, begins: Option<Tag>) -> Result<Vec<Step>, SqlFault>
     Ok(steps)
 }
 
-/// What is played where the step `end` ends a transaction and the next one begins, which has the lock `begins`, if any.
+/// What is played where the step `end` ends a transaction and the next one begins, which has the lock
+/// `begins`, if any.
 fn ended(alloc: Global, end: Step, begins: Option<Tag>) -> Result<Vec<Step>, SqlFault>
     ensures { IfOk result (λ steps. steps.items ≡ end ∷ begun_by begins) }
 {
@@ -175,7 +181,8 @@ fn ended(alloc: Global, end: Step, begins: Option<Tag>) -> Result<Vec<Step>, Sql
     Ok(steps)
 }
 
-/// What a session of `database` plays for a statement that begins a transaction of its own as `manner` says, takes `locks`, and plays `others` after them.
+/// What a session of `database` plays for a statement that begins a transaction of its own as `manner` says,
+/// takes `locks`, and plays `others` after them.
 fn played_in(
     alloc: Global,
     database: u32,
@@ -193,8 +200,9 @@ fn played_in(
     Ok(steps)
 }
 
-/// What a session of `database` plays for a statement whose locks `locks` it owns itself, while its transaction waits for the transactions whose locks are
-/// `awaited`: as for `CREATE INDEX CONCURRENTLY` (`DefineIndex` in indexcmds.c).
+/// What a session of `database` plays for a statement whose locks `locks` it owns itself, while its
+/// transaction waits for the transactions whose locks are `awaited`: as for `CREATE INDEX CONCURRENTLY`
+/// (`DefineIndex` in indexcmds.c).
 fn played_owned(
     alloc: Global,
     database: u32,
@@ -210,9 +218,9 @@ fn played_owned(
     Ok(steps)
 }
 
-/// What a session of `database` plays for a statement of two transactions. The first one takes the first two of `locks`, and the second one the others.
-/// Between them the statement waits for the transactions whose locks are `awaited`: as for `DETACH PARTITION CONCURRENTLY` (`ATExecDetachPartition` in
-/// tablecmds.c).
+/// What a session of `database` plays for a statement of two transactions. The first one takes the first two
+/// of `locks`, and the second one the others. Between them the statement waits for the transactions whose
+/// locks are `awaited`: as for `DETACH PARTITION CONCURRENTLY` (`ATExecDetachPartition` in tablecmds.c).
 fn played_parted(
     alloc: Global,
     database: u32,

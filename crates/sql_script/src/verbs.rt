@@ -81,7 +81,8 @@ fn first_space(text: &str) -> Option<usize>
         .position(|byte| byte.is_ascii_whitespace())
 }
 
-/// What comes before and what comes behind the first semicolon of `word`. Where there is none all of `word` comes before it.
+/// What comes before and what comes behind the first semicolon of `word`. Where there is none all of `word`
+/// comes before it.
 pub fn cut_at_semicolon(word: &str) -> (&str, &str)
     ensures before { result.0.now ≡ before_semicolon word.now }
     ensures behind { result.1.now ≡ behind_semicolon word.now }

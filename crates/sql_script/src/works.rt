@@ -27,8 +27,8 @@ impl SqlScript {
         }
     }
 
-    /// Has the session named `name` work at the statement that was read, which has the locks `locks`, and at whose end `left` is played. Refused where the
-    /// statement begins or ends transactions or their levels.
+    /// Has the session named `name` work at the statement that was read, which has the locks `locks`, and at
+    /// whose end `left` is played. Refused where the statement begins or ends transactions or their levels.
     pub(crate) fn begin_work(
         &mut self,
         name: &str,
@@ -58,8 +58,9 @@ impl SqlScript {
         })
     }
 
-    /// What the session named `name`, one of `database`, plays now that the work of its statement is done: nothing where it works at no statement, and else
-    /// one turn. Where the statement waits for transactions that have a snapshot, the session works on, and the end comes by another `done` line.
+    /// What the session named `name`, one of `database`, plays now that the work of its statement is done:
+    /// nothing where it works at no statement, and else one turn. Where the statement waits for transactions
+    /// that have a snapshot, the session works on, and the end comes by another `done` line.
     pub fn done(&mut self, name: &str, database: u32) -> Result<Vec<Turn>, ScriptFault>
         ensures { IfOk result (λ turns.
             IsPlayedAtEnd database self.old.sessions (work_called self.old.sessions name.now) turns.items) }
@@ -95,8 +96,8 @@ impl SqlScript {
             .find(|session| session.name.as_str() == name)
     }
 
-    /// The locks of the transactions for whose ends a statement of `database` waits that has done its `work`: those that have a snapshot, if `work` awaits
-    /// them.
+    /// The locks of the transactions for whose ends a statement of `database` waits that has done its `work`:
+    /// those that have a snapshot, if `work` awaits them.
     fn awaited_at_end(&self, database: u32, work: &Work) -> Result<Vec<Tag>, AllocError>
         ensures { IfOk result (λ tags. tags.items ≡ awaited_at_end database self.now.sessions work.now) }
     {
@@ -107,7 +108,8 @@ impl SqlScript {
         awaited_of(self.alloc, sessions, database, Awaits::Writers, &[])
     }
 
-    /// Where `is_done`, has the session named `name` work at nothing. Where not, the statement at which the session works waits for no snapshot any more.
+    /// Where `is_done`, has the session named `name` work at nothing. Where not, the statement at which the
+    /// session works waits for no snapshot any more.
     fn leave_work(&mut self, name: &str, is_done: bool) {
         let alloc = self.alloc;
         let Some(place) = self.place_of(name) else {
@@ -118,7 +120,8 @@ impl SqlScript {
         }
     }
 
-    /// The turn of the end of a statement, which plays `steps` and waits for the transactions whose locks are `awaited`.
+    /// The turn of the end of a statement, which plays `steps` and waits for the transactions whose locks are
+    /// `awaited`.
     fn turn_of_end(&self, awaited: Vec<Tag>, steps: Vec<Step>) -> Turn
         ensures { result.steps ≡ steps }
     {
@@ -140,7 +143,8 @@ impl SqlScript {
         }
     }
 
-    /// Has the session named `name` have no transaction and work at nothing, since a line that says no SQL ended its transaction.
+    /// Has the session named `name` have no transaction and work at nothing, since a line that says no SQL
+    /// ended its transaction.
     pub(crate) fn drop_transaction(&mut self, name: &str) {
         let alloc = self.alloc;
         if let Some(place) = self.place_of(name) {

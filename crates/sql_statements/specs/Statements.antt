@@ -27,7 +27,8 @@ kept_of words = map (λ word. (word.line, string_bytes word.text)) (filter (λ w
 abbrev pub kept_of_all : List SqlStatement → List (ℕ × List ℕ)
 kept_of_all statements = flat_map (λ statement. kept_of statement.words.items) statements
 
--- Statements are those of a text: their words are all of its words that say something, in their order, each once and with its line.
+-- Statements are those of a text: their words are all of its words that say something, in their order, each
+-- once and with its line.
 abbrev pub AreStatementsOf : List ℕ → List SqlStatement → Type 0
 AreStatementsOf text statements =
     (words : List Word) × (flat_map text_of words ≡ text) × AreNumbered 1 words × All IsWord words

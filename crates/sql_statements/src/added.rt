@@ -5,8 +5,8 @@ use crate::reader::StatementReader;
 use sql_locks::{Form, SqlFault};
 
 impl StatementReader {
-    /// Reads a form of `ALTER TABLE` that adds a column or a constraint to `table`, and to its children unless
-    /// `is_only`.
+    /// Reads a form of `ALTER TABLE` that adds a column or a constraint to `table`, and to its children
+    /// unless `is_only`.
     pub fn read_add(&mut self, table: usize, is_only: bool) -> Result<(), SqlFault> {
         if let Some(constraint) = self.constraint("")? {
             return self.add_constraint(table, constraint, is_only);
@@ -23,8 +23,8 @@ impl StatementReader {
         self.read_new_column(table, column.as_str(), is_only)
     }
 
-    /// Reads what comes after the name `column` of a column that is added to `table`, and to its children unless
-    /// `is_only`.
+    /// Reads what comes after the name `column` of a column that is added to `table`, and to its children
+    /// unless `is_only`.
     fn read_new_column(
         &mut self,
         table: usize,
@@ -62,7 +62,8 @@ impl StatementReader {
             && !self.cursor.is_at("varchar")
     }
 
-    /// Has the statement reach what `constraint` reaches, a constraint of a column that is added to `table`, and to its children unless `is_only`.
+    /// Has the statement reach what `constraint` reaches, a constraint of a column that is added to `table`,
+    /// and to its children unless `is_only`.
     fn add_column_constraint(
         &mut self,
         table: usize,
@@ -90,7 +91,8 @@ impl StatementReader {
         Ok(())
     }
 
-    /// Has the statement reach what `constraint` reaches, a constraint that is added to `table`, and to its children unless `is_only`.
+    /// Has the statement reach what `constraint` reaches, a constraint that is added to `table`, and to its
+    /// children unless `is_only`.
     fn add_constraint(
         &mut self,
         table: usize,
@@ -130,7 +132,8 @@ impl StatementReader {
         Ok(())
     }
 
-    /// Has the statement reach what the foreign key `constraint` reaches, by which `table` and each of its partitions refer to `referred`.
+    /// Has the statement reach what the foreign key `constraint` reaches, by which `table` and each of its
+    /// partitions refer to `referred`.
     fn add_foreign_key(
         &mut self,
         table: usize,

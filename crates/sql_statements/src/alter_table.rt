@@ -26,7 +26,8 @@ impl StatementReader {
         Ok(())
     }
 
-    /// Passes the rest of one form of an `ALTER TABLE`, up to the comma after the form or to the statement's end.
+    /// Passes the rest of one form of an `ALTER TABLE`, up to the comma after the form or to the statement's
+    /// end.
     fn skip_alteration(&mut self) {
         for _ in 0..self.cursor.words.len() {
             if self.cursor.is_at_end() || self.cursor.is_mark(",") {
@@ -123,8 +124,8 @@ impl StatementReader {
         Ok(())
     }
 
-    /// Reads a form that renames `table`, one of its columns or one of its constraints, and those of its children
-    /// unless `is_only`.
+    /// Reads a form that renames `table`, one of its columns or one of its constraints, and those of its
+    /// children unless `is_only`.
     fn read_rename(&mut self, table: usize, is_only: bool) -> Result<(), SqlFault> {
         if self.cursor.eat("to") {
             let name = self.name()?;
@@ -162,7 +163,8 @@ impl StatementReader {
         Ok(())
     }
 
-    /// Reads the name of the constraint of `table` that is validated, and those of its children unless `is_only`.
+    /// Reads the name of the constraint of `table` that is validated, and those of its children unless
+    /// `is_only`.
     fn read_validate(&mut self, table: usize, is_only: bool) -> Result<(), SqlFault> {
         let name = self.name()?;
         let key = self
@@ -182,7 +184,8 @@ impl StatementReader {
         Ok(())
     }
 
-    /// Reads one of the rarer forms of an `ALTER TABLE` of `table`, and answers which form it is, or none where it is not known.
+    /// Reads one of the rarer forms of an `ALTER TABLE` of `table`, and answers which form it is, or none
+    /// where it is not known.
     fn other_alteration(&mut self, table: usize) -> Result<Option<Form>, SqlFault> {
         if self.cursor.eat_all(&["cluster", "on"]) {
             if let Some(index) = self.relation()? {
@@ -212,7 +215,8 @@ impl StatementReader {
         Ok(self.plain_alteration())
     }
 
-    /// Makes `table` a logged table or an unlogged one, by `is_logged`, and answers the form in which this is done.
+    /// Makes `table` a logged table or an unlogged one, by `is_logged`, and answers the form in which this is
+    /// done.
     fn set_logged(&mut self, table: usize, is_logged: bool) -> Result<Form, SqlFault> {
         if self.belongings.is_unlogged(table) != is_logged {
             return Ok(Form::SetLoggedAlready);
@@ -265,7 +269,8 @@ impl StatementReader {
         }
     }
 
-    /// Reads the form of `ALTER TABLE` that comes next, if it is one that switches triggers, rules or row level security on or off.
+    /// Reads the form of `ALTER TABLE` that comes next, if it is one that switches triggers, rules or row
+    /// level security on or off.
     fn switch(&mut self) -> Option<Form> {
         let cursor = &mut self.cursor;
         if cursor.eat_all(&["no", "force"]) || cursor.eat("force") {

@@ -69,8 +69,8 @@ impl StatementReader {
         Ok(())
     }
 
-    /// Reads what comes after `CREATE RULE`. The locks of a rule whose condition has a query are not known. A rule for a `SELECT` is
-    /// the query of a view.
+    /// Reads what comes after `CREATE RULE`. The locks of a rule whose condition has a query are not known. A
+    /// rule for a `SELECT` is the query of a view.
     fn read_create_rule(&mut self) -> Result<(), SqlFault> {
         let name = self.name()?;
         self.cursor.skip_to("on");
@@ -285,7 +285,8 @@ impl StatementReader {
         Ok(())
     }
 
-    /// Gives the publication `name` the table `table`, with its children unless `is_only`, or takes these from the publication where `loses` is true.
+    /// Gives the publication `name` the table `table`, with its children unless `is_only`, or takes these
+    /// from the publication where `loses` is true.
     fn publish(
         &mut self,
         name: &str,

@@ -1,4 +1,5 @@
-//! What statements said of relations beside the catalog: what belongs to tables, what indexes are made of, and what views name.
+//! What statements said of relations beside the catalog: what belongs to tables, what indexes are made of,
+//! and what views name.
 
 use std::alloc::{AllocError, Global};
 
@@ -17,7 +18,8 @@ pub enum AttachedKind {
     Statistics,
     /// A publication that has the table.
     Publication,
-    /// The default of a column of the table, whose value comes from the sequence that the `Attached` has as its `name`.
+    /// The default of a column of the table, whose value comes from the sequence that the `Attached` has as
+    /// its `name`.
     Default,
 }
 
@@ -52,7 +54,8 @@ pub struct ViewNames {
     pub names: Vec<String>,
 }
 
-/// What statements said of relations, beside what the catalog has. What was said of a relation that was dropped stays, and is not asked for any more.
+/// What statements said of relations, beside what the catalog has. What was said of a relation that was
+/// dropped stays, and is not asked for any more.
 #[derive(Drop)]
 pub struct Belongings {
     pub attached: Vec<Attached>,

@@ -4,7 +4,8 @@ use crate::reader::StatementReader;
 use sql_locks::{Form, SqlFault};
 
 impl StatementReader {
-    /// Has the statement reach the tables that checks of foreign keys read or change where `form` changes rows of `table`.
+    /// Has the statement reach the tables that checks of foreign keys read or change where `form` changes
+    /// rows of `table`.
     pub fn add_checks(&mut self, form: Form, table: usize) -> Result<(), SqlFault> {
         if self.is_planned {
             return Ok(());

@@ -23,7 +23,8 @@ pub struct Constraint {
     pub kind: ConstraintKind,
     /// The name of the constraint, where the statement says one.
     pub name: String,
-    /// The end of the name that the server makes for the constraint where the statement gives none, as `fkey`.
+    /// The end of the name that the server makes for the constraint where the statement gives none, as
+    /// `fkey`.
     pub suffix: &'static str,
     pub columns: Vec<String>,
     /// The table that a foreign key refers to, or the index that a key uses.
@@ -48,7 +49,8 @@ static BEGINNINGS: [&str; 7] = [
 ];
 
 impl StatementReader {
-    /// Reads the constraint that comes next: one of the column `column`, or one of a table where `column` is empty. None where no constraint comes.
+    /// Reads the constraint that comes next: one of the column `column`, or one of a table where `column` is
+    /// empty. None where no constraint comes.
     pub fn constraint(&mut self, column: &str) -> Result<Option<Constraint>, SqlFault> {
         let alloc = self.alloc;
         let mut name = String::new(alloc);
@@ -86,7 +88,8 @@ impl StatementReader {
         Ok(Some(constraint))
     }
 
-    /// Reads the kind of the constraint that comes next, and answers it with the end of the name that the server makes for such a constraint.
+    /// Reads the kind of the constraint that comes next, and answers it with the end of the name that the
+    /// server makes for such a constraint.
     fn constraint_kind(&mut self) -> Option<(ConstraintKind, &'static str)> {
         let cursor = &mut self.cursor;
         if cursor.eat_all(&["primary", "key"]) {
@@ -179,7 +182,8 @@ impl StatementReader {
         Ok(number)
     }
 
-    /// Has the statement reach the partitions of `referred`, to which a foreign key refers, and the indexes of their keys.
+    /// Has the statement reach the partitions of `referred`, to which a foreign key refers, and the indexes
+    /// of their keys.
     pub fn refer_to_partitions(&mut self, referred: usize) -> Result<(), SqlFault> {
         if !self.belongings.is_partitioned(referred) {
             return Ok(());

@@ -70,8 +70,8 @@ impl StatementReader {
         self.read_create_on_table()
     }
 
-    /// Reads the rest of a `CREATE VIEW`, with `OR REPLACE` where `replaces` is true and with `RECURSIVE` where
-    /// `is_recursive` is.
+    /// Reads the rest of a `CREATE VIEW`, with `OR REPLACE` where `replaces` is true and with `RECURSIVE`
+    /// where `is_recursive` is.
     fn read_create_view(&mut self, replaces: bool, is_recursive: bool) -> Result<(), SqlFault> {
         let begin = self.cursor.place;
         let name = self.name()?;
@@ -155,8 +155,8 @@ impl StatementReader {
         self.know_view(view, names)
     }
 
-    /// Links `view`, by links of `kind`, to the targets of the forms that the statement has from the place `first` on, and answers whether none of these
-    /// targets is the view or reads it.
+    /// Links `view`, by links of `kind`, to the targets of the forms that the statement has from the place
+    /// `first` on, and answers whether none of these targets is the view or reads it.
     fn link_readings(
         &mut self,
         kind: LinkKind,

@@ -106,7 +106,8 @@ impl StatementReader {
         Ok(())
     }
 
-    /// Whether the type of a column that comes next has a sequence, as `serial`, or an identity comes after the type.
+    /// Whether the type of a column that comes next has a sequence, as `serial`, or an identity comes after
+    /// the type.
     pub fn is_serial(&mut self) -> bool {
         if self
             .cursor

@@ -44,7 +44,8 @@ impl SqlWord {
     }
 }
 
-/// The place of a name among the words of a statement: from the word at `begin` on, to before the word at `end`.
+/// The place of a name among the words of a statement: from the word at `begin` on, to before the word at
+/// `end`.
 #[derive(Clone, Copy, PartialEq, Eq)]
 pub struct NamePlace {
     pub begin: usize,
@@ -178,13 +179,14 @@ impl Cursor {
         }
     }
 
-    /// Whether the list element at the cursor ends before the next word: by a comma, a parenthesis, or the statement's end.
+    /// Whether the list element at the cursor ends before the next word: by a comma, a parenthesis, or the
+    /// statement's end.
     pub fn is_at_element_end(&self) -> bool {
         self.is_at_end() || self.is_mark(",") || self.is_mark(")")
     }
 
-    /// Goes on after the next `key_word` outside all parentheses, and answers whether there is one. Where there is none, the cursor goes on to the
-    /// statement's end.
+    /// Goes on after the next `key_word` outside all parentheses, and answers whether there is one. Where
+    /// there is none, the cursor goes on to the statement's end.
     pub fn skip_to(&mut self, key_word: &str) -> bool {
         for _ in 0..self.words.len() {
             if self.eat(key_word) {
@@ -239,7 +241,8 @@ impl Cursor {
         false
     }
 
-    /// Whether `key_words` come one after another, from the word on that comes `ahead` words after the next one.
+    /// Whether `key_words` come one after another, from the word on that comes `ahead` words after the next
+    /// one.
     fn are_ahead(&self, ahead: usize, key_words: &[&str]) -> bool {
         for (place, key_word) in key_words.iter().enumerate() {
             if !self.is_ahead(ahead.saturating_add(place), key_word) {
@@ -249,7 +252,8 @@ impl Cursor {
         true
     }
 
-    /// Passes the name that comes next, which is names joined by points, and answers its place. None where no name comes.
+    /// Passes the name that comes next, which is names joined by points, and answers its place. None where no
+    /// name comes.
     pub fn name(&mut self) -> Option<NamePlace> {
         let begin = self.place;
         if !self.is_name_ahead(0) {

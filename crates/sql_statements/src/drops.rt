@@ -6,8 +6,8 @@ use crate::create::LOCKLESS_OBJECTS;
 use crate::reader::{Change, StatementReader};
 use sql_locks::{Defect, Form, Link, LinkKind, RelationKind, SqlFault};
 
-/// What goes with the relation `number` by `link`, if something does: the partitions of a table, and where `cascades`
-/// is true its children and the views that read it.
+/// What goes with the relation `number` by `link`, if something does: the partitions of a table, and where
+/// `cascades` is true its children and the views that read it.
 fn dependent(link: &Link, number: usize, cascades: bool) -> Option<usize> {
     match link.kind {
         LinkKind::Partition if link.from == number => Some(link.to),
@@ -98,7 +98,8 @@ impl StatementReader {
         Ok(())
     }
 
-    /// Has the statement drop the relation `number` in `form`, and what goes with that relation, by `CASCADE` too where `cascades` is true.
+    /// Has the statement drop the relation `number` in `form`, and what goes with that relation, by `CASCADE`
+    /// too where `cascades` is true.
     fn drop_one(&mut self, form: Form, number: usize, cascades: bool) -> Result<(), SqlFault> {
         match self.kind(number) {
             RelationKind::Index => {
@@ -137,7 +138,8 @@ impl StatementReader {
         Ok(())
     }
 
-    /// Has the statement drop what goes with the relation `number`, by `CASCADE` too where `cascades` is true.
+    /// Has the statement drop what goes with the relation `number`, by `CASCADE` too where `cascades` is
+    /// true.
     pub fn drop_dependents(&mut self, number: usize, cascades: bool) -> Result<(), SqlFault> {
         let mut gone = Vec::new(self.alloc);
         gone.push(number)?;

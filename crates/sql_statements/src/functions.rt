@@ -6,8 +6,8 @@ use crate::reader::{Advisory, StatementReader};
 use sql_locks::{Defect, Form, SqlFault, WordKind};
 use std::alloc::AllocError;
 
-/// Reads in `reader` a call of a function that takes locks, of a sequence or of an advisory lock, or passes another
-/// word.
+/// Reads in `reader` a call of a function that takes locks, of a sequence or of an advisory lock, or passes
+/// another word.
 pub fn read_function(reader: &mut StatementReader) -> Result<(), SqlFault> {
     if reader.cursor.is_mark_ahead(1, "(") {
         if reader.cursor.is_at_one(&["nextval", "setval"]) && !reader.is_planned {
@@ -36,7 +36,8 @@ static ADVISORY: [&str; 11] = [
     "pg_advisory_unlock_all",
 ];
 
-/// Whether one of the parts of the name of the function `function`, between underscores, is `part`, in letters of either case.
+/// Whether one of the parts of the name of the function `function`, between underscores, is `part`, in
+/// letters of either case.
 pub fn has_part(function: &str, part: &str) -> bool {
     function
         .split('_')
@@ -87,7 +88,8 @@ fn sequence_name(reader: &StatementReader) -> Result<Option<String>, AllocError>
     Ok(Some(part_of(reader.alloc, kind, inner)?))
 }
 
-/// Reads in `reader` a call of a function that takes an advisory lock or gives one back, with the places of the lock's keys.
+/// Reads in `reader` a call of a function that takes an advisory lock or gives one back, with the places of
+/// the lock's keys.
 fn read_advisory(reader: &mut StatementReader) -> Result<(), AllocError> {
     let function = reader.cursor.place;
     let second = if reader.cursor.is_mark_ahead(3, ",") {
@@ -104,8 +106,9 @@ fn read_advisory(reader: &mut StatementReader) -> Result<(), AllocError> {
 }
 
 impl StatementReader {
-    /// Keeps that a column of `table` has its default from a sequence, where a `nextval` comes next. The statement itself locks no sequence: the server looks
-    /// the sequence's name up without a lock, and locks the sequence once a row takes a number.
+    /// Keeps that a column of `table` has its default from a sequence, where a `nextval` comes next. The
+    /// statement itself locks no sequence: the server looks the sequence's name up without a lock, and locks
+    /// the sequence once a row takes a number.
     pub fn note_default(&mut self, table: usize) -> Result<(), SqlFault> {
         if !self.cursor.is_at("nextval") {
             return Ok(());
@@ -120,8 +123,8 @@ impl StatementReader {
         Ok(())
     }
 
-    /// Has the statement reach the tables of which `table` is a partition: where a row comes straight to `table`, the server reads what these are partitioned
-    /// by.
+    /// Has the statement reach the tables of which `table` is a partition: where a row comes straight to
+    /// `table`, the server reads what these are partitioned by.
     pub fn add_parents(&mut self, table: usize) -> Result<(), SqlFault> {
         let mut next = table;
         for _ in 0..self.catalog.relations.len() {

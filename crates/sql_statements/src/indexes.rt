@@ -1,4 +1,5 @@
-//! Indexes: those that statements make, those that each partition gets with them, and those that go with a column or a key.
+//! Indexes: those that statements make, those that each partition gets with them, and those that go with a
+//! column or a key.
 
 use crate::belongings::{IndexOf, are_same, copy_names};
 use crate::names::made_name;
@@ -63,8 +64,8 @@ impl StatementReader {
         }
     }
 
-    /// Links `table` to `index`, unless the table is partitioned: an index of such a table has no rows. The index's name ends in `suffix`, which is `pkey`
-    /// for a primary key.
+    /// Links `table` to `index`, unless the table is partitioned: an index of such a table has no rows. The
+    /// index's name ends in `suffix`, which is `pkey` for a primary key.
     pub fn link_index(
         &mut self,
         index: usize,
@@ -92,7 +93,8 @@ impl StatementReader {
         Ok(index)
     }
 
-    /// The name that the server makes for an index of `columns` of `table` with `suffix`, a name that no relation has.
+    /// The name that the server makes for an index of `columns` of `table` with `suffix`, a name that no
+    /// relation has.
     pub fn name_of_index(
         &self,
         table: usize,
@@ -112,7 +114,8 @@ impl StatementReader {
         self.free_name(table.as_str(), joined.as_str(), suffix)
     }
 
-    /// The name that the server makes of `table`, `columns` and `suffix`, with a number at its end where another relation has the name without one.
+    /// The name that the server makes of `table`, `columns` and `suffix`, with a number at its end where
+    /// another relation has the name without one.
     pub fn free_name(
         &self,
         table: &str,
@@ -158,7 +161,8 @@ impl StatementReader {
         Ok(None)
     }
 
-    /// Gives `partition`, which is new or attached, an index for each of the indexes of `parent` that it has none like.
+    /// Gives `partition`, which is new or attached, an index for each of the indexes of `parent` that it has
+    /// none like.
     pub fn make_indexes_of_parent(
         &mut self,
         parent: usize,
@@ -175,7 +179,8 @@ impl StatementReader {
         Ok(())
     }
 
-    /// Makes an index of `partition` that is like `words` a part of the index `whole`, and answers whether there is such an index.
+    /// Makes an index of `partition` that is like `words` a part of the index `whole`, and answers whether
+    /// there is such an index.
     fn take_index(&mut self, partition: usize, words: &IndexWords, whole: usize) -> bool {
         for of in self.belongings.indexes.iter_mut() {
             if of.table == partition

@@ -1,4 +1,5 @@
-//! SQL statements as they are read: which relations each names, in which form it reaches each, and what it changes.
+//! SQL statements as they are read: which relations each names, in which form it reaches each, and what it
+//! changes.
 #![tactic(auto)]
 
 mod added;

@@ -4,7 +4,8 @@ use crate::reader::StatementReader;
 use sql_locks::{Defect, Form, RelationKind, SqlFault};
 
 impl StatementReader {
-    /// Reads a statement of maintenance, or one that locks or empties tables, and answers whether such a statement comes next.
+    /// Reads a statement of maintenance, or one that locks or empties tables, and answers whether such a
+    /// statement comes next.
     pub fn read_maintenance(&mut self) -> Result<bool, SqlFault> {
         if self.cursor.eat("truncate") {
             self.read_truncate()?;
@@ -84,7 +85,8 @@ impl StatementReader {
         Ok(())
     }
 
-    /// The form of a `LOCK TABLE` in the mode that comes after `IN`, or in `ACCESS EXCLUSIVE` mode where no `IN` comes.
+    /// The form of a `LOCK TABLE` in the mode that comes after `IN`, or in `ACCESS EXCLUSIVE` mode where no
+    /// `IN` comes.
     fn lock_form(&mut self) -> Result<Form, SqlFault> {
         let begin = self.cursor.place;
         if !self.cursor.skip_to("in") {
@@ -101,7 +103,8 @@ impl StatementReader {
         }
     }
 
-    /// Reads the lock mode that comes next, and answers the form of a `LOCK TABLE` in that mode, or none where no lock mode comes.
+    /// Reads the lock mode that comes next, and answers the form of a `LOCK TABLE` in that mode, or none
+    /// where no lock mode comes.
     fn lock_mode(&mut self) -> Option<Form> {
         let cursor = &mut self.cursor;
         if cursor.eat_all(&["access", "share"]) {

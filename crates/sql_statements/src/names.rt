@@ -7,8 +7,8 @@ use std::alloc::{AllocError, Global};
 /// The schema that is left out of names.
 const USUAL_SCHEMA: &str = "public";
 
-/// The name that `parts` are, names with points between, as `sales.orders`, in the form in which every name is kept:
-/// without `public`, in small letters, and in double quotes only where those are needed.
+/// The name that `parts` are, names with points between, as `sales.orders`, in the form in which every name
+/// is kept: without `public`, in small letters, and in double quotes only where those are needed.
 pub fn name_of(alloc: Global, parts: &[SqlWord]) -> Result<String, AllocError> {
     let mut name = String::new(alloc);
     for (place, part) in parts.iter().enumerate() {
@@ -57,7 +57,8 @@ fn is_plain(name: &str) -> bool {
     }
 }
 
-/// The name that the server makes for an index, a sequence or a constraint of `table`, `columns` and `suffix`.
+/// The name that the server makes for an index, a sequence or a constraint of `table`, `columns` and
+/// `suffix`.
 pub fn made_name(
     alloc: Global,
     table: &str,

@@ -4,7 +4,8 @@ use crate::reader::{Change, StatementReader};
 use sql_locks::{Form, LinkKind, SqlFault};
 
 impl StatementReader {
-    /// Reads a form of `ALTER TABLE` that attaches a partition to `table` or detaches one, and answers whether such a form comes next.
+    /// Reads a form of `ALTER TABLE` that attaches a partition to `table` or detaches one, and answers
+    /// whether such a form comes next.
     pub fn read_partitions(&mut self, table: usize) -> Result<bool, SqlFault> {
         if self.cursor.eat_all(&["attach", "partition"]) {
             if let Some(partition) = self.relation()? {
@@ -53,7 +54,8 @@ impl StatementReader {
         Ok(())
     }
 
-    /// Reads a form of `ALTER TABLE` that gives `table` a parent or takes one away, and answers whether such a form comes next.
+    /// Reads a form of `ALTER TABLE` that gives `table` a parent or takes one away, and answers whether such
+    /// a form comes next.
     pub fn read_parent(&mut self, table: usize) -> Result<bool, SqlFault> {
         if self.cursor.eat("inherit") {
             if let Some(parent) = self.relation()? {

@@ -32,14 +32,14 @@ struct Query {
 }
 
 impl StatementReader {
-    /// Reads the query that comes next, up to its end or the parenthesis that ends it, and has the statement reach its relations: those that the query reads
-    /// in the form `reads`.
+    /// Reads the query that comes next, up to its end or the parenthesis that ends it, and has the statement
+    /// reach its relations: those that the query reads in the form `reads`.
     pub fn read_query(&mut self, reads: Form) -> Result<(), SqlFault> {
         self.read_query_with(reads, None)
     }
 
-    /// Reads the query of a definition, which the server does not plan, nor does it plan the views that the query names: what is read and written is
-    /// locked, but no indexes and no children.
+    /// Reads the query of a definition, which the server does not plan, nor does it plan the views that the
+    /// query names: what is read and written is locked, but no indexes and no children.
     pub fn read_definition(&mut self) -> Result<(), SqlFault> {
         let first = self.acts.len();
         self.read_query(Form::ReadDefinition)?;
@@ -69,8 +69,8 @@ impl StatementReader {
         self.read_query(Form::Select)
     }
 
-    /// Reads the query that comes next, which reads relations in the form `reads`. The name at the place `own`, if one is given, is no relation but the query
-    /// itself.
+    /// Reads the query that comes next, which reads relations in the form `reads`. The name at the place
+    /// `own`, if one is given, is no relation but the query itself.
     pub fn read_query_with(&mut self, reads: Form, own: Option<usize>) -> Result<(), SqlFault> {
         let mut query = Query {
             reads,
@@ -97,8 +97,9 @@ impl StatementReader {
         Ok(())
     }
 
-    /// Puts the forms of `readings`, the relations that a query names, before the forms that were added after the first `before` ones: the server locks what
-    /// a query names before it runs the query, and calls functions, checks foreign keys and makes tables as it runs.
+    /// Puts the forms of `readings`, the relations that a query names, before the forms that were added after
+    /// the first `before` ones: the server locks what a query names before it runs the query, and calls
+    /// functions, checks foreign keys and makes tables as it runs.
     fn add_readings(&mut self, readings: &Vec<Reading>, before: usize) -> Result<(), AllocError> {
         let mut behind = Vec::new(self.alloc);
         for place in before..self.acts.len() {
@@ -183,7 +184,8 @@ impl Query {
         Ok(())
     }
 
-    /// Reads in `reader` a relation that the query reads, or passes the name of a function or a common table expression in place of one.
+    /// Reads in `reader` a relation that the query reads, or passes the name of a function or a common table
+    /// expression in place of one.
     fn read_reading(&mut self, reader: &mut StatementReader) -> Result<(), SqlFault> {
         if reader.cursor.eat("only") {
             self.is_only = true;
@@ -209,7 +211,8 @@ impl Query {
         self.read_relation(reader, self.reads)
     }
 
-    /// Whether a common table expression of the query has the name that is at `place` among the words of `reader`.
+    /// Whether a common table expression of the query has the name that is at `place` among the words of
+    /// `reader`.
     fn is_expression(&self, reader: &StatementReader, place: usize) -> bool {
         for expression in &self.expressions {
             if reader.cursor.is_same_name(*expression, place) {
@@ -290,7 +293,8 @@ impl Query {
         Ok(())
     }
 
-    /// Passes in `reader` the key word that ends a list after `FROM`. After a key word that joins two queries `TABLE` may name a relation.
+    /// Passes in `reader` the key word that ends a list after `FROM`. After a key word that joins two queries
+    /// `TABLE` may name a relation.
     fn pass_end_of_from(&mut self, reader: &mut StatementReader) {
         let joins = reader.cursor.is_at_one(&JOINS_OF_QUERIES);
         reader.cursor.advance();
@@ -301,8 +305,8 @@ impl Query {
         }
     }
 
-    /// Reads in `reader` what comes after `FOR` where rows are locked: `UPDATE`, `NO KEY UPDATE`, `SHARE` or `KEY
-    /// SHARE`, and the names of the relations after `OF`.
+    /// Reads in `reader` what comes after `FOR` where rows are locked: `UPDATE`, `NO KEY UPDATE`, `SHARE` or
+    /// `KEY SHARE`, and the names of the relations after `OF`.
     fn read_row_locks(&mut self, reader: &mut StatementReader) {
         let is_lock = reader.cursor.eat("update")
             || reader.cursor.eat("share")
@@ -327,7 +331,8 @@ impl Query {
         }
     }
 
-    /// Has the query lock rows of the relations of its level: of the one whose name `reader` has at the place `name`, or of all where `name` is none.
+    /// Has the query lock rows of the relations of its level: of the one whose name `reader` has at the place
+    /// `name`, or of all where `name` is none.
     fn lock_rows(&mut self, reader: &StatementReader, name: Option<usize>) {
         let before = self.level.before;
         for place in before..self.readings.len() {

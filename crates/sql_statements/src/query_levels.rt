@@ -36,7 +36,8 @@ impl Level {
         }
     }
 
-    /// The level within a parenthesis that opens on this level, after `before` relations: a list of relations, where a relation was to come next.
+    /// The level within a parenthesis that opens on this level, after `before` relations: a list of
+    /// relations, where a relation was to come next.
     pub fn within(self, before: usize) -> Self {
         let mut level = Level::new(before);
         level.is_in_from = self.expects_relation;

@@ -1,4 +1,5 @@
-//! A statement as it is read: the relations that it names, with the form in which it reaches each, and what it changes.
+//! A statement as it is read: the relations that it names, with the form in which it reaches each, and what
+//! it changes.
 
 use crate::belongings::{AttachedKind, Belongings, rename_in};
 use crate::cursor::{Cursor, NamePlace, SqlWord};
@@ -13,17 +14,21 @@ pub enum Change {
     Drop(usize),
     /// The relation of this number gets this name.
     Rename(usize, String),
-    /// The first of two relations, given by their numbers, is linked to the second one by a link of this kind.
+    /// The first of two relations, given by their numbers, is linked to the second one by a link of this
+    /// kind.
     Link(LinkKind, usize, usize),
-    /// The link of this kind from the first to the second of two relations, given by their numbers, is taken away.
+    /// The link of this kind from the first to the second of two relations, given by their numbers, is taken
+    /// away.
     Unlink(LinkKind, usize, usize),
     /// The foreign key of this name is taken away from the table of this number.
     DropForeignKey(usize, String),
-    /// A foreign key of the table of this number gets another name: the old name comes first, and the new one after it.
+    /// A foreign key of the table of this number gets another name: the old name comes first, and the new one
+    /// after it.
     RenameForeignKey(usize, String, String),
     /// All rows of the table of this number are known to keep the foreign key of this name.
     ValidateForeignKey(usize, String),
-    /// A column of the table of this number gets another name: the old name comes first, and the new one after it.
+    /// A column of the table of this number gets another name: the old name comes first, and the new one
+    /// after it.
     RenameColumn(usize, String, String),
     /// A table gets this foreign key.
     AddForeignKey(ForeignKey),
@@ -41,8 +46,9 @@ pub enum Control {
     Savepoint,
 }
 
-/// An advisory lock that a statement takes or gives back: the places, among the words of the statement, of the function and of the keys. Of a function that
-/// gives back all advisory locks `first` is the place after the opening parenthesis.
+/// An advisory lock that a statement takes or gives back: the places, among the words of the statement, of
+/// the function and of the keys. Of a function that gives back all advisory locks `first` is the place after
+/// the opening parenthesis.
 #[derive(Clone, Copy)]
 pub struct Advisory {
     pub function: usize,
@@ -85,8 +91,8 @@ impl StatementReader {
         }
     }
 
-    /// Reads the statement of `words`, of which blanks, comments and the semicolon are left out. The changes of the statement before this one must be settled
-    /// first.
+    /// Reads the statement of `words`, of which blanks, comments and the semicolon are left out. The changes
+    /// of the statement before this one must be settled first.
     pub fn read_statement(&mut self, words: Vec<SqlWord>) -> Result<(), SqlFault> {
         self.cursor = Cursor { words, place: 0 };
         self.acts = Vec::new(self.alloc);
@@ -138,7 +144,8 @@ impl StatementReader {
         }
     }
 
-    /// The number of the relation whose name comes next, or none where it is one of the server's own catalogs.
+    /// The number of the relation whose name comes next, or none where it is one of the server's own
+    /// catalogs.
     pub fn relation(&mut self) -> Result<Option<usize>, SqlFault> {
         let begin = self.cursor.place;
         let name = self.name()?;
@@ -208,7 +215,8 @@ impl StatementReader {
         Ok(())
     }
 
-    /// Whether `form` reaches no children of `target`, as a form that reaches partitions alone, or all children but partitions.
+    /// Whether `form` reaches no children of `target`, as a form that reaches partitions alone, or all
+    /// children but partitions.
     fn stays_at(&self, form: Form, target: usize) -> bool {
         let is_partitioned = self.belongings.is_partitioned(target);
         match form {
@@ -238,7 +246,8 @@ impl StatementReader {
         }
     }
 
-    /// Makes a relation of `kind` that is called `name`, unless there is a relation of that name, and answers the relation's number.
+    /// Makes a relation of `kind` that is called `name`, unless there is a relation of that name, and answers
+    /// the relation's number.
     pub fn make(&mut self, name: &str, kind: RelationKind) -> Result<usize, AllocError> {
         match self.catalog.find(name) {
             Some(number) => Ok(number),
@@ -313,8 +322,8 @@ impl StatementReader {
         self.cursor.eat_all(&["if", "exists"]) || self.cursor.eat_all(&["if", "not", "exists"])
     }
 
-    /// Makes the changes of the statement in the catalog. Where `is_ended` says that the transaction has ended, the relations that it made are known to
-    /// others.
+    /// Makes the changes of the statement in the catalog. Where `is_ended` says that the transaction has
+    /// ended, the relations that it made are known to others.
     pub fn settle(&mut self, is_ended: bool) -> Result<(), AllocError> {
         let mut changes = Vec::new(self.alloc);
         std::mem::swap(&mut changes, &mut self.changes);

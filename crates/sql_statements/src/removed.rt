@@ -28,8 +28,8 @@ impl StatementReader {
         self.drop_foreign_keys(table, name.as_str(), is_constraint)
     }
 
-    /// Has the statement drop what goes with `column` of `table`: its indexes, those of its children unless `is_only`, and where `cascades` is true the
-    /// foreign keys and views that name the column.
+    /// Has the statement drop what goes with `column` of `table`: its indexes, those of its children unless
+    /// `is_only`, and where `cascades` is true the foreign keys and views that name the column.
     fn drop_with_column(
         &mut self,
         table: usize,
@@ -85,7 +85,8 @@ impl StatementReader {
         Ok(())
     }
 
-    /// Has the statement drop the index of the key `name` of `table`, and where `cascades` is true the foreign keys that refer to the columns of the index.
+    /// Has the statement drop the index of the key `name` of `table`, and where `cascades` is true the
+    /// foreign keys that refer to the columns of the index.
     fn drop_index_of(&mut self, table: usize, name: &str, cascades: bool) -> Result<(), SqlFault> {
         let Some(index) = self.catalog.find(name) else {
             return Ok(());
@@ -104,8 +105,8 @@ impl StatementReader {
         Ok(())
     }
 
-    /// Has the statement drop the foreign keys of `table` that go with `name`, and reach the tables that these refer to. Whether `name` is a constraint or a
-    /// column, `is_constraint` says.
+    /// Has the statement drop the foreign keys of `table` that go with `name`, and reach the tables that
+    /// these refer to. Whether `name` is a constraint or a column, `is_constraint` says.
     fn drop_foreign_keys(
         &mut self,
         table: usize,

@@ -64,7 +64,8 @@ impl StatementReader {
             || cursor.is_mark_ahead(0, "(")
     }
 
-    /// Reads a statement that begins or ends a transaction or a part of one, and answers whether such a statement comes next.
+    /// Reads a statement that begins or ends a transaction or a part of one, and answers whether such a
+    /// statement comes next.
     fn read_control(&mut self) -> bool {
         let cursor = &self.cursor;
         let control = if cursor.is_at_one(&["begin", "start"]) {
@@ -118,7 +119,8 @@ impl StatementReader {
         if self.cursor.eat("policy") {
             return self.read_alter_attached(Form::AlterPolicy, &POLICIES);
         }
-        // A domain's constraint is checked in all tables that have it, and a type's attribute goes by CASCADE to tables of the type.
+        // A domain's constraint is checked in all tables that have it, and a type's attribute goes by CASCADE
+        // to tables of the type.
         let is_known = self.cursor.is_at_one(&LOCKLESS_OBJECTS)
             || self.cursor.is_at_one(&["default", "statistics", "system"]);
         if is_known && !self.cursor.is_at("domain") && !self.cursor.has("cascade") {
@@ -127,7 +129,8 @@ impl StatementReader {
         Err(self.fault_at(0, Defect::UnknownStatement))
     }
 
-    /// Reads what comes after `ALTER TRIGGER`. Where a statement says on which extension a trigger depends, its locks are those of a comment on the trigger.
+    /// Reads what comes after `ALTER TRIGGER`. Where a statement says on which extension a trigger depends,
+    /// its locks are those of a comment on the trigger.
     fn read_alter_trigger(&mut self) -> Result<(), SqlFault> {
         if self.cursor.has("depends") {
             return self.read_on_table(Form::CommentOnConstraint);

@@ -20,7 +20,8 @@ pub struct SqlStatement {
     pub to: usize,
 }
 
-/// The statements of `text`, without those that have no word. The rows after `COPY .. FROM stdin` are left out.
+/// The statements of `text`, without those that have no word. The rows after `COPY .. FROM stdin` are left
+/// out.
 pub fn split_statements(alloc: Global, text: &[u8]) -> Result<Vec<SqlStatement>, SqlFault>
     ensures nothing_lost { IfOk result (λ statements. AreStatementsOf text.now statements.items) }
     ensures lines { IfOk result (λ statements. All IsPlaced statements.items) }
@@ -78,7 +79,8 @@ struct Parted {
     /// How many parentheses are open, and how many blocks of a function's body.
     depth: usize,
     blocks: usize,
-    /// The fault of an outermost parenthesis that does not end, and that of a function's body that does not end, each while it is open.
+    /// The fault of an outermost parenthesis that does not end, and that of a function's body that does not
+    /// end, each while it is open.
     parenthesis: Option<SqlFault>,
     body: Option<SqlFault>,
 }
@@ -172,7 +174,8 @@ impl Parted {
         Ok(())
     }
 
-    /// Whether `word` opens a block of a function's body: the `ATOMIC` of `BEGIN ATOMIC`, or a `CASE` in such a block.
+    /// Whether `word` opens a block of a function's body: the `ATOMIC` of `BEGIN ATOMIC`, or a `CASE` in such
+    /// a block.
     fn opens_block(&self, word: &SqlWord) -> bool {
         match self.words.last() {
             Some(before) => {

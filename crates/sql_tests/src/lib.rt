@@ -1,4 +1,5 @@
-//! Tests of what is said of SQL statements, in a crate of their own. Apart from its tests there is nothing here.
+//! Tests of what is said of SQL statements, in a crate of their own. Apart from its tests there is nothing
+//! here.
 #![tactic(auto)]
 
 #[cfg(test)]

@@ -9,8 +9,8 @@ pub struct PageForms {
     /// The row's statements, as docs/POSTGRESQL.md has them.
     pub sql: &'static str,
     pub forms: &'static [Form],
-    /// The modes that the row names beside those of its forms, though others may wait for them: on an index that nobody uses yet or any more, by a try, and
-    /// on advisory keys.
+    /// The modes that the row names beside those of its forms, though others may wait for them: on an index
+    /// that nobody uses yet or any more, by a try, and on advisory keys.
     pub apart: &'static [Mode],
 }
 

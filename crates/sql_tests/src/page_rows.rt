@@ -1,6 +1,7 @@
 //! The tables of SQL statements of docs/POSTGRESQL.md (`.ci/scenarios` writes them here).
 
-/// Reads and writes: of each row the statements, what the page says of their locks on tables and on indexes, and of their work.
+/// Reads and writes: of each row the statements, what the page says of their locks on tables and on indexes,
+/// and of their work.
 pub static PAGE_1: [(&str, &str, &str); 14] = [
     (
         "SELECT, TABLE, COPY (SELECT ..) TO, DECLARE CURSOR, EXPLAIN of a read",
@@ -66,7 +67,8 @@ pub static PAGE_1: [(&str, &str, &str); 14] = [
     ("CALL, DO, SET, VALUES", "none of their own; ", ""),
 ];
 
-/// Indexes: of each row the statements, what the page says of their locks on tables and on indexes, and of their work.
+/// Indexes: of each row the statements, what the page says of their locks on tables and on indexes, and of
+/// their work.
 pub static PAGE_2: [(&str, &str, &str); 11] = [
     (
         "CREATE INDEX",
@@ -125,7 +127,8 @@ pub static PAGE_2: [(&str, &str, &str); 11] = [
     ),
 ];
 
-/// ALTER TABLE: of each row the statements, what the page says of their locks on tables and on indexes, and of their work.
+/// ALTER TABLE: of each row the statements, what the page says of their locks on tables and on indexes, and
+/// of their work.
 pub static PAGE_3: [(&str, &str, &str); 27] = [
     (
         "ADD COLUMN, with no default or a constant one",
@@ -260,7 +263,8 @@ pub static PAGE_3: [(&str, &str, &str); 27] = [
     ),
 ];
 
-/// Partitions and children: of each row the statements, what the page says of their locks on tables and on indexes, and of their work.
+/// Partitions and children: of each row the statements, what the page says of their locks on tables and on
+/// indexes, and of their work.
 pub static PAGE_4: [(&str, &str, &str); 8] = [
     (
         "ALTER TABLE .. ATTACH PARTITION",
@@ -304,7 +308,8 @@ pub static PAGE_4: [(&str, &str, &str); 8] = [
     ),
 ];
 
-/// Tables, views, sequences: of each row the statements, what the page says of their locks on tables and on indexes, and of their work.
+/// Tables, views, sequences: of each row the statements, what the page says of their locks on tables and on
+/// indexes, and of their work.
 pub static PAGE_5: [(&str, &str, &str); 14] = [
     (
         "CREATE TABLE",
@@ -378,7 +383,8 @@ pub static PAGE_5: [(&str, &str, &str); 14] = [
     ),
 ];
 
-/// Triggers, rules, policies, publications, statistics: of each row the statements, what the page says of their locks on tables and on indexes, and of their work.
+/// Triggers, rules, policies, publications, statistics: of each row the statements, what the page says of
+/// their locks on tables and on indexes, and of their work.
 pub static PAGE_6: [(&str, &str, &str); 16] = [
     (
         "CREATE TRIGGER",
@@ -454,7 +460,8 @@ pub static PAGE_6: [(&str, &str, &str); 16] = [
     ("DROP OWNED", "as DROP TABLE on each; as there", "a moment"),
 ];
 
-/// Maintenance: of each row the statements, what the page says of their locks on tables and on indexes, and of their work.
+/// Maintenance: of each row the statements, what the page says of their locks on tables and on indexes, and
+/// of their work.
 pub static PAGE_7: [(&str, &str, &str); 6] = [
     (
         "VACUUM, with FREEZE too",

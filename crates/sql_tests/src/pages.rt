@@ -9,7 +9,8 @@ use modes_core::{Mode, ModeSet, conflicts};
 use sql_locks::{Form, FormRow, all_rows};
 use std::process::Abort;
 
-/// Whether `told` are the modes of `forms`, but for further modes that keep nobody else waiting, and for those of `apart`.
+/// Whether `told` are the modes of `forms`, but for further modes that keep nobody else waiting, and for
+/// those of `apart`.
 fn are_modes_of(told: ModeSet, forms: &[Form], apart: &[Mode]) -> bool {
     let modes = modes_of(forms);
     for mode in Mode::ALL {
@@ -110,7 +111,8 @@ fn tables() -> [(&'static [PageRow], &'static [PageForms]); 7] {
     ]
 }
 
-/// The statement of the first of `rows` whose form is in no row of docs/POSTGRESQL.md, and is none whose mode the statement itself names.
+/// The statement of the first of `rows` whose form is in no row of docs/POSTGRESQL.md, and is none whose mode
+/// the statement itself names.
 fn first_untold(rows: &'static [FormRow]) -> Option<&'static str> {
     for row in rows {
         if !is_told(row.form) {

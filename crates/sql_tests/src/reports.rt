@@ -1,4 +1,5 @@
-//! What is said of the statements of a migration, and of faults. The modes are those that PostgreSQL's `pg_locks` shows.
+//! What is said of the statements of a migration, and of faults. The modes are those that PostgreSQL's
+//! `pg_locks` shows.
 
 use sql_report::make_report;
 use std::alloc::Global;

@@ -256,7 +256,8 @@ static AWAITED: [(&str, &str); 9] = [
     ),
 ];
 
-/// Lines that come after `TRACKED` in a script, with statements that work until a later line, and the lines that are played for that script.
+/// Lines that come after `TRACKED` in a script, with statements that work until a later line, and the lines
+/// that are played for that script.
 static WORKED: [(&str, &str); 12] = [
     // The end of a statement comes by its line, and what it made is known to others from then on.
     (
@@ -286,7 +287,8 @@ static WORKED: [(&str, &str); 12] = [
          commit builder\nlock builder adv/5/0/1/3 ShareLock\ncommit writer\n\
          commit builder\nunlock builder 5/16384 ShareUpdateExclusiveLock session\n",
     ),
-    // It waits for no LOCK, which has no snapshot, for no other database's, and for nobody whose transaction a line ended.
+    // It waits for no LOCK, which has no snapshot, for no other database's, and for nobody whose transaction
+    // a line ended.
     (
         "work builder CREATE INDEX CONCURRENTLY made ON plain (id);\nwork far TABLE other;\nwork reader TABLE other;\nabort reader\ndo writer BEGIN;\n\
          work writer LOCK other;\ndone builder;\n",
@@ -367,7 +369,8 @@ fn played_of(alloc: Global, text: &str) -> Result<String, Fail> {
     Ok(said)
 }
 
-/// Fails where, for one of `scripts`, other lines are played for `TRACKED` with the first text after it than those of the second text.
+/// Fails where, for one of `scripts`, other lines are played for `TRACKED` with the first text after it than
+/// those of the second text.
 fn compare<H: AllocGlobal + Abort>(rt: &H, scripts: &[(&str, &str)]) -> Result<(), Fail> {
     let alloc = rt.alloc();
     for (lines, want) in scripts {

@@ -37,15 +37,16 @@ impl Write for Full {
     }
 }
 
-/// The statements that words are tried on: those of `QUIET` keep nobody waiting but index builds, those of `STOPS_WRITES` keep writes waiting, and those of
-/// `STOPS_READS` keep reads waiting too.
+/// The statements that words are tried on: those of `QUIET` keep nobody waiting but index builds, those of
+/// `STOPS_WRITES` keep writes waiting, and those of `STOPS_READS` keep reads waiting too.
 const QUIET: &str = "CREATE TABLE t (a int);\nCOMMIT;\nINSERT INTO t VALUES (1);";
 
 const STOPS_WRITES: &str = "CREATE TABLE t (a int);\nCREATE INDEX i ON t (a);";
 
 const STOPS_READS: &str = "CREATE TABLE t (a int);\nALTER TABLE t ADD b int;";
 
-/// Command lines with words after `sql`, the statements for each, its status, and a part of what it writes to the output or the errors.
+/// Command lines with words after `sql`, the statements for each, its status, and a part of what it writes to
+/// the output or the errors.
 static RUNS: [(&str, &str, u8, &str); 16] = [
     ("lock_scenario sql", QUIET, 0, "keep writes waiting: 0"),
     (

@@ -7,8 +7,8 @@ use modes_core::{Mode, Tag, conflicts};
 use std::alloc::AllocError;
 
 impl Timeline {
-    /// Adds an arrow from the bar numbered `from` to the bar of each held lock that is in the way of `mode` on `tag`
-    /// for the session of `lane`.
+    /// Adds an arrow from the bar numbered `from` to the bar of each held lock that is in the way of `mode`
+    /// on `tag` for the session of `lane`.
     pub(super) fn add_holders(
         &mut self,
         lane: u32,
@@ -27,9 +27,9 @@ impl Timeline {
         Ok(())
     }
 
-    /// Has the bar numbered `from` join the wait queue of `tag`: at the end, or before the first bar that waits for
-    /// what the session of `lane` holds (`ProcSleep` in proc.c). Adds an arrow from the bar to each bar before it in
-    /// the wait queue that is in the way of `mode`.
+    /// Has the bar numbered `from` join the wait queue of `tag`: at the end, or before the first bar that
+    /// waits for what the session of `lane` holds (`ProcSleep` in proc.c). Adds an arrow from the bar to each
+    /// bar before it in the wait queue that is in the way of `mode`.
     pub(super) fn join_queue(
         &mut self,
         lane: u32,
@@ -60,8 +60,8 @@ impl Timeline {
         Ok(())
     }
 
-    /// Takes the wait of the session `name` out of the wait queue, if the session waits, and answers the number of
-    /// the bar of the wait.
+    /// Takes the wait of the session `name` out of the wait queue, if the session waits, and answers the
+    /// number of the bar of the wait.
     pub(super) fn leave_queue(&mut self, name: &Name) -> Option<u32> {
         let lane = self.lane_of(name)?;
         let mut number = 0_u32;

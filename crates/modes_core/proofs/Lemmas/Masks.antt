@@ -147,7 +147,8 @@ masks_meet a b is =
 both_bits : (x y : ℕ) → x < 2 → y < 2 → min x y ≡ 1 → (nat_eq x 1 ≡ true) × (nat_eq y 1 ≡ true)
 both_bits x y x_bit y_bit low = (grind (arith, nat_tests), grind (arith, nat_tests))
 
--- what is so of the lowest bit of `a & b`: it is a bit of both, and no bit below it is; where there is none it is past all modes
+-- what is so of the lowest bit of `a & b`: it is a bit of both, and no bit below it is; where there is none
+-- it is past all modes
 record IsLowest (a b place : ℕ) : Type 0 where
   within : place < 9 → (nat_eq (bit_at a place) 1 ≡ true) × (nat_eq (bit_at b place) 1 ≡ true)
   none_below : (i : ℕ) → i < place → (nat_eq (bit_at a i) 1 && nat_eq (bit_at b i) 1) ≡ false
@@ -175,7 +176,8 @@ lowest_bit a b below =
           }
     ]
 
--- `(a & b).trailing_zeros()` is the number of the lowest mode that is in both masks, and no mode's where there is none
+-- `(a & b).trailing_zeros()` is the number of the lowest mode that is in both masks, and no mode's where
+-- there is none
 pub lowest_in : (a b : ℕ) → IsModeMask a → (mode : Mode) → number_of mode ≡ trailing_zeros w16 (bit_and a b) → (set_has a mode ≡ true) × (set_has b mode ≡ true)
 lowest_in a b is mode e =
     let low : number_of mode < 9 = (number_of-within mode).1 in

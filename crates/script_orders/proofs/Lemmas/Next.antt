@@ -51,8 +51,8 @@ zero_at f xs ys i e within same sums z =
     sum_by-drop_more f ys i 0 within in
     omega (arith, rest, none, y)
 
--- a step from a merge to another: at one place the least of the later sessions after it comes, and after that place
--- the sessions descend before, and ascend then
+-- a step from a merge to another: at one place the least of the later sessions after it comes, and after that
+-- place the sessions descend before, and ascend then
 pub record IsStep (old new : List ℕ) (p q : ℕ) : Type 0 where
   pub before : p < q
   pub within : q < length old

@@ -1,4 +1,5 @@
--- What stays true while the locks of a statement's forms are gathered, form by form, and looked at, lock by lock.
+-- What stays true while the locks of a statement's forms are gathered, form by form, and looked at, lock by
+-- lock.
 use Rattle.std.proofs.Common.{◌≡◌, ◌<◌, ◌+◌, ℕ, Bool, true, false, ◌||◌, List, [], ◌∷◌, ◌++◌, take, get_or, length, refl, sym, ◌∙◌, ap, append_assoc}
 use Rattle.std.specs.List.{list_any}
 use Rattle.std.proofs.lemmas.List.{append-nil}

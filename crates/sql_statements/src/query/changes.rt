@@ -1,4 +1,5 @@
-//! The first word of a query, and the relation that an `INSERT`, an `UPDATE`, a `DELETE` or a `MERGE` changes.
+//! The first word of a query, and the relation that an `INSERT`, an `UPDATE`, a `DELETE` or a `MERGE`
+//! changes.
 
 use super::{Query, Reading};
 use crate::belongings::AttachedKind;
@@ -7,8 +8,8 @@ use sql_locks::{Defect, Form, SqlFault};
 use std::alloc::AllocError;
 
 impl Query {
-    /// Reads in `reader` the first word of a statement or a query, with the relation that the statement changes, and answers whether the next word was such a
-    /// first word.
+    /// Reads in `reader` the first word of a statement or a query, with the relation that the statement
+    /// changes, and answers whether the next word was such a first word.
     pub(super) fn read_verb(&mut self, reader: &mut StatementReader) -> Result<bool, SqlFault> {
         if reader.cursor.eat("select") {
             self.level.is_query = true;
@@ -65,8 +66,8 @@ impl Query {
         reader.add_checks(form, reading.target)
     }
 
-    /// Has the query reach the indexes of the table of `reading`, into which an `INSERT` of `reader` puts rows, where its `ON CONFLICT` names columns or a
-    /// constraint.
+    /// Has the query reach the indexes of the table of `reading`, into which an `INSERT` of `reader` puts
+    /// rows, where its `ON CONFLICT` names columns or a constraint.
     fn read_conflict(
         &mut self,
         reader: &StatementReader,
