@@ -55,8 +55,8 @@ module _
     objects = λ stage. stage.cast.names.objects;
   }
 
-  -- A line of a script that speaks no SQL is bad, behind this number of them: its text is; or its words are, or
-  -- those of a kept line that is run behind it.
+  -- A line of a script that speaks no SQL is bad, behind this number of them: its text is; or its words are,
+  -- or those of a kept line that is run behind it.
   abbrev pub EndsInBadLine : Bool → ℕ → Option (List ℕ) → Stage B (List Heard) → List KeptQueue → ℕ → Defect → List Heard → Type 0
   EndsInBadLine keeps lines unread stage kept line what heard =
       (IfSome unread (λ bytes. (line ≡ lines + 1) × (reading_of lines bytes ≡ Err what)) × (heard ≡ stage.listener))

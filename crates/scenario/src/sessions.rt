@@ -104,8 +104,8 @@ pub struct ScriptState<T: PartTable, B: Board<T>, D: ScriptDesk<OwnSession<T, B>
 impl<T: PartTable, B: Board<T>, D: ScriptDesk<OwnSession<T, B>>> ScriptState<T, B, D> {
     ghost use Rattle.lock_script.specs.Sessions.{IsThere, MayAct};
 
-    /// The state of a script that acts on `desk`, of which no session was opened yet, with `sessions`, of which
-    /// none is open.
+    /// The state of a script that acts on `desk`, of which no session was opened yet, with `sessions`, of
+    /// which none is open.
     pub fn new(
         alloc: Global,
         desk: D,
