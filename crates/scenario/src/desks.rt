@@ -120,7 +120,7 @@ impl<S, D: Desk<S>, M: ManagerName> ScriptDesk<S> for OnceDesk<S, D, M> {
 pub struct ReusingDesk<T: PartTable, B: Board<T>, D: Desk<OwnSession<T, B>>, M: ManagerName> {
     pub desk: D,
     pub pool: SessionPool<T, B>,
-    of: PhantomData<M>,
+    pub(crate) of: PhantomData<M>,
     ghost is: { D.manager desk ≡ M.manager },
     ghost seats: { SeatsAre B.seat D.seat },
     ghost sees: { SeesSessions D.database_of D.entries },
@@ -132,42 +132,9 @@ pub struct ReusingDesk<T: PartTable, B: Board<T>, D: Desk<OwnSession<T, B>>, M: 
     ghost room: { M.manager.limit ≤ length pool.lives },
 }
 
-impl<T: PartTable, B: Board<T>, D: Desk<OwnSession<T, B>>, M: ManagerName> ReusingDesk<T, B, D, M> {
-    /// A desk of a script over `desk` and `pool`, of which no session was opened or lent yet.
-    pub fn new(desk: D, pool: SessionPool<T, B>) -> Self
-        requires is { D.manager desk ≡ M.manager }
-        requires seats { SeatsAre B.seat D.seat }
-        requires sees { SeesSessions D.database_of D.entries }
-        requires none_free { pool.free ≡ [] }
-        requires none_issued { D.issued desk ≡ 0 }
-        requires none_live { D.live desk ≡ 0 }
-        requires room { M.manager.limit ≤ length pool.lives }
-        ensures desk { result.desk ≡ desk }
-    {
-        ReusingDesk {
-            desk,
-            pool,
-            of: PhantomData,
-        }
-    }
-
-    /// The desk that this one stands over, once the sessions of its pool are closed.
-    pub fn into_desk<R: Wait>(self, rt: &R) -> D
-        ensures is { D.manager result ≡ M.manager }
-        ensures live { D.live result ≡ D.live self.desk - length self.pool.free }
-    {
-        let ReusingDesk {
-            mut desk,
-            pool,
-            of: _,
-        } = self;
-        pool.end(rt, &mut desk);
-        desk
-    }
-}
-
-impl<T: PartTable, B: Board<T>, D: Desk<OwnSession<T, B>>, M: ManagerName> ScriptDesk<OwnSession<T, B>>
-    for ReusingDesk<T, B, D, M> {
+impl<T: PartTable, B: Board<T>, D: Desk<OwnSession<T, B>>, M: ManagerName> ScriptDesk<
+    OwnSession<T, B>,
+> for ReusingDesk<T, B, D, M> {
     ghost manager = { M.manager };
 
     ghost issued = { λ reusing. D.issued reusing.desk };

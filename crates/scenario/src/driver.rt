@@ -1,5 +1,5 @@
 //! What is done in a scene, against a lock manager of its own.
-ghost use Rattle.std.specs.Prelude.{◌≡◌, ◌⊎◌, ◌≤◌, [], Err, IfOk, IfSome, false, true};
+ghost use Rattle.std.specs.Prelude.{◌≡◌, ◌⊎◌, ◌≤◌, [], Err, IfSome, false, true};
 ghost use Rattle.lock_manager.specs.Crews.{SeatsAre};
 ghost use Rattle.modes_core.specs.Sessions.{usual_sessions};
 ghost use Rattle.scenario.specs.Acts.{no_cast};
@@ -16,7 +16,7 @@ use lock_script::{Fault, OpenSessions};
 use lock_table::PartTable;
 use shared_rule::{Board, SeatBoard};
 use std::alloc::Global;
-use std::marker::Brand;
+use std::marker::{Brand, PhantomData};
 use std::sync::Wait;
 
 /// What is done in a scene: the lines of a script are run, or those that somebody types, or the orders of a
@@ -185,7 +185,11 @@ fn drive_reusing<
         sessions.finish();
         return (listener, None);
     };
-    let desk = ReusingDesk::<T, B, D, M>::new(desk, pool);
+    let desk = ReusingDesk::<T, B, D, M> {
+        desk,
+        pool,
+        of: PhantomData,
+    };
     let state = ScriptState::new(alloc, desk, sessions);
     let mut scene = Scene { state, listener };
     let ended = scene.act_out(rt, act);
@@ -196,5 +200,11 @@ fn drive_reusing<
         sessions,
     } = state;
     sessions.finish();
-    (listener, Some((desk.into_desk(rt), ended)))
+    let ReusingDesk {
+        mut desk,
+        pool,
+        of: _,
+    } = desk;
+    pool.end(rt, &mut desk);
+    (listener, Some((desk, ended)))
 }

@@ -273,8 +273,7 @@ impl<T: PartTable, B: Board<T>, D: ScriptDesk<OwnSession<T, B>>, L: Listener> Sc
 
     /// The fault of the line of the number `number`, whose SQL can't be played. The listener hears why,
     /// `unplayed`, in place of the line.
-    pub(crate) fn refuse(&mut self, number: u32, unplayed: Unplayed) -> Fault
-    {
+    pub(crate) fn refuse(&mut self, number: u32, unplayed: Unplayed) -> Fault {
         let why = match unplayed {
             Unplayed::Told(why) => why,
             Unplayed::WrongNumberOfWords => {

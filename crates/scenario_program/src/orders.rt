@@ -1,6 +1,5 @@
 //! The orders of a script, played against lock managers that are emptied between two orders.
 
-ghost use Rattle.std.specs.Prelude.{◌≡◌};
 ghost use Rattle.scenario.specs.Sizes.{IsForManager};
 
 use crate::hints::{Reader, hint_text};
@@ -52,8 +51,7 @@ impl<'a, 'b> Act<Spectator<'a, 'b>> for AllTurns {
 fn play_turns<T: PartTable, B: Board<T>, D: ScriptDesk<OwnSession<T, B>>, H: Wait>(
     rt: &H,
     scene: &mut Scene<T, B, D, Spectator<'_, '_>>,
-) -> Result<(), Fault>
-{
+) -> Result<(), Fault> {
     'turns: for _ in 0..u64::MAX {
         let turn = scene.listener.orders.next_instruction();
         match turn.map_err(|_| Fault::NoMemory)? {
@@ -70,8 +68,7 @@ fn play_line<T: PartTable, B: Board<T>, D: ScriptDesk<OwnSession<T, B>>, H: Wait
     rt: &H,
     scene: &mut Scene<T, B, D, Spectator<'_, '_>>,
     line: &str,
-) -> Result<(), Fault>
-{
+) -> Result<(), Fault> {
     let state = &scene.state;
     let command = parse(line, &state.sessions, &state.names.objects).map_err(|what| Fault::BadLine {
         line: 0,
@@ -87,8 +84,7 @@ fn play_line<T: PartTable, B: Board<T>, D: ScriptDesk<OwnSession<T, B>>, H: Wait
 fn let_all_go<T: PartTable, B: Board<T>, D: ScriptDesk<OwnSession<T, B>>, H: Wait>(
     rt: &H,
     state: &mut ScriptState<T, B, D>,
-)
-{
+) {
     state.cancel_all(rt);
     'sessions: for place in 0..state.sessions.resting.len() {
         if place < state.sessions.resting.len() {

@@ -17,12 +17,12 @@ use Rattle.scenario.specs.Staged.{Stage, play_of}
 use Rattle.scenario.proofs.Lemmas.InTurn.{HaveRun}
 
 -- Of a run whose listener failed nothing is said.
-pub unless-unheard : {P : Type 0} (fault : Fault) → IsUnheard fault → UnlessUnheard (Err fault) P
-unless-unheard (BadLine line what) unheard = absurd unheard
-unless-unheard ReadFailed unheard = absurd unheard
-unless-unheard WriteFailed unheard = tt
-unless-unheard NoMemory unheard = tt
-unless-unheard GateHeld unheard = absurd unheard
+pub unless-unheard : (P : Type 0) (fault : Fault) → IsUnheard fault → UnlessUnheard (Err fault) P
+unless-unheard P (BadLine line what) unheard = absurd unheard
+unless-unheard P ReadFailed unheard = absurd unheard
+unless-unheard P WriteFailed unheard = tt
+unless-unheard P NoMemory unheard = tt
+unless-unheard P GateHeld unheard = absurd unheard
 
 pub unheard-bad : {C : Type 0} (P : ScriptLine → Defect → C → Type 0) (new : C) (fault : Fault) → IsUnheard fault → IsBad P new fault
 unheard-bad P new (BadLine line what) unheard = absurd unheard

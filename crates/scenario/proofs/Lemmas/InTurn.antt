@@ -1,5 +1,5 @@
 -- Lines that are run and kept.
-use Rattle.std.proofs.Common.{◌≡◌, ◌∙◌, ◌+◌, ◌<◌, ℕ, add-zero, arith, inl, length-append, None, Option, Some, IfSome, get_or, length, take, if◌then◌else◌, Bool, true, false, List, [], ◌∷◌, ◌++◌, append-nil, ap, map, refl, sym, subst, Ok, Err, OnOk, Result}
+use Rattle.std.proofs.Common.{◌≡◌, ◌∙◌, ◌+◌, ◌<◌, ℕ, add-zero, arith, inl, length-append, Option, Some, IfSome, get_or, length, take, if◌then◌else◌, Bool, true, false, List, [], ◌∷◌, ◌++◌, append-nil, ap, map, refl, sym, subst, Ok, Err, OnOk, Result}
 use Rattle.std.specs.Prelude.{MatchBool}
 use Rattle.std.specs.Str.{bytes_eq}
 use Rattle.std.proofs.lemmas.Grind.{flat_map-append}

@@ -1,5 +1,5 @@
 -- Lines that do something in one place do it likewise in another.
-use Rattle.std.proofs.Common.{◌≡◌, ℕ, ◌+◌, Bool, true, false, List, [], ◌∷◌, ap, refl, sym, subst, inl, inr, Option}
+use Rattle.std.proofs.Common.{◌≡◌, ℕ, ◌+◌, Bool, true, false, List, [], ◌∷◌, ap, refl, sym, subst, inl, inr}
 use Rattle.std.specs.Prelude.{MatchBool, string_bytes}
 use Rattle.lock_script.specs.Kept.{HasToWait, NoneReady}
 use Rattle.lock_script.specs.declared.faults.Defect.{Defect}

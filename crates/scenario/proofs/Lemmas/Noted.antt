@@ -158,7 +158,7 @@ module _
         let it = noted-so-far number unread new left so_far in
         ends-so number unread new left it (Ok done) now (it.noted.listener ++ end) (reads, (last, end, ends, refl))
         (hears-append hears first new.listener now it.noted.listener end it.is.heard heard)
-    ends-well number unread new left last now (Err fault) so_far reads end unheard = λ _. unless-unheard fault unheard
+    ends-well number unread new left last now (Err fault) so_far reads end unheard = λ _. unless-unheard _ fault unheard
 
     -- The next line wasn't read.
     pub ends-unread :

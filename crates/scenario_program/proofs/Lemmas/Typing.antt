@@ -6,7 +6,6 @@ use Rattle.std.specs.declared.io.buffered.BufWriter.{BufWriter}
 use Rattle.local_locks.specs.declared.records.Entry.{Entry}
 use Rattle.lock_manager.specs.Sessions.{SessionView}
 use Rattle.lock_script.specs.Lines.{Reads, after_line, reading_of}
-use Rattle.lock_script.specs.declared.faults.Defect.{Defect}
 use Rattle.lock_script.specs.declared.faults.Defect.TheVariants.{NotAsciiText}
 use Rattle.lock_script.specs.declared.faults.Fault.{Fault}
 use Rattle.lock_script.specs.declared.faults.Fault.TheVariants.{BadLine, ReadFailed, WriteFailed, NoMemory, GateHeld}
@@ -14,7 +13,7 @@ use Rattle.lock_world.specs.Account.{Account}
 use Rattle.shared_rule.specs.Boards.{Seated, Stack}
 use Rattle.scenario.specs.Acts.{UnlessUnheard, Writes}
 use Rattle.scenario.specs.Answers.{Cast}
-use Rattle.scenario.specs.Heard.{Heard, Hears, HearsAll, Helped, IsUnheard}
+use Rattle.scenario.specs.Heard.{Heard, Hears, HearsAll, IsUnheard}
 use Rattle.scenario.specs.Printed.{IsFormOf, Prints}
 use Rattle.scenario.specs.declared.output.Output.{Output}
 use Rattle.scenario.specs.declared.style.Form.{Form}
@@ -23,7 +22,7 @@ use Rattle.scenario.proofs.Lemmas.Failing.{unless-unheard}
 use Rattle.scenario.proofs.Lemmas.Hearing.{hears-append}
 use Rattle.scenario.proofs.Lemmas.Printing.{heard-written}
 use Rattle.scenario_program.specs.Runs.{ArePassedOn}
-use Rattle.scenario_program.specs.Typed.{AnswersAll, AnswersLine, AnswersTyped, AreNextTyped, AreTyped, EndsTyped, IsReadNext, IsTypedHeard, PlaysTyped, at_terminal, greeting, prompt}
+use Rattle.scenario_program.specs.Typed.{AnswersAll, AnswersTyped, AreNextTyped, AreTyped, EndsTyped, IsReadNext, IsTypedHeard, PlaysTyped, at_terminal, greeting, prompt}
 use Rattle.scenario_program.proofs.Lemmas.Printing.{kept-written, unless-so}
 
 -- What is read next, where this number of lines was read: a text, or none where it isn't text.
@@ -234,7 +233,7 @@ module _
       OnOk told (HearsAll hears mid last now) → IfErr told IsUnheard → IsTypedHeard seat view stack again database_of entries hears is_terminal typed old before told now
   typed-prompted number unread new here mid now (Ok done) first last so_far ends prompted ended unheard =
       typed-all number unread new here now (Ok done) (first ++ last) so_far (ends done) (hears-append hears here mid now first last prompted ended)
-  typed-prompted number unread new here mid now (Err fault) first last so_far ends prompted ended unheard = unless-unheard fault unheard
+  typed-prompted number unread new here mid now (Err fault) first last so_far ends prompted ended unheard = unless-unheard _ fault unheard
 
   -- The shell ends by a line that wasn't read.
   pub typed-unread :
@@ -242,7 +241,7 @@ module _
       HearsAll hears here (at_terminal is_terminal prompt) mid → read ≡ Err fault → IfSome unread (λ bytes. Reads read number (reading_of number bytes)) →
       IsUnheard last ⊎ ((last ≡ fault) × (now ≡ mid) × ((line : ℕ) → fault ≢ BadLine line NotAsciiText)) →
       IsTypedHeard seat view stack again database_of entries hears is_terminal typed old before (Err last) now
-  typed-unread number unread new here mid now read fault last so_far prompted is reads (inl unheard) = unless-unheard last unheard
+  typed-unread number unread new here mid now read fault last so_far prompted is reads (inl unheard) = unless-unheard _ last unheard
   typed-unread number unread new here mid now read fault last so_far prompted is reads (inr (same, stays, other)) =
       subst (λ (it : Fault). IsTypedHeard seat view stack again database_of entries hears is_terminal typed old before (Err it) now) (sym same)
       (subst (λ (it : L). IsTypedHeard seat view stack again database_of entries hears is_terminal typed old before (Err fault) it) (sym stays)

@@ -1,4 +1,3 @@
-use Rattle.std.proofs.Common.{◌≡◌}
 use Rattle.scenario_program.proofs.Lemmas.Typing.{HaveTyped}
 use Rattle.scenario_program.proofs.shell.converse.Given as goal
 

@@ -6,7 +6,8 @@ use Rattle.scenario.proofs.Lemmas.Lent.{has-room}
 use Rattle.scenario.proofs.desks.ReusingDeskScriptDeskOwnSession.close.Goals as goal
 
 pub close-requires-clause-own : goal.close-requires-clause-own
-close-requires-clause-own g c = ap (λ (seat : Seated). seat.table) (sym (c.args.self.now.seats c.args.session)) ∙ c.requires.own
+close-requires-clause-own g c =
+    ap (λ (seat : Seated). seat.table) (sym (c.args.self.now.seats c.args.session)) ∙ c.requires.own ∙ sym (ap (λ manager. manager.table) c.args.self.now.is)
 
 pub invariant_of-self-clause-own : goal.invariant_of-self-clause-own
 invariant_of-self-clause-own g c = rw c.args.self.now.is at c.close.ensures.free

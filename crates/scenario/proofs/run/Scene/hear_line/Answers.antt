@@ -1,4 +1,3 @@
-use Rattle.std.proofs.Common.{◌∙◌, sym}
 use Rattle.scenario.proofs.Lemmas.InTurn.{on-ok}
 use Rattle.scenario.proofs.run.Scene.hear_line.Goals as goal
 

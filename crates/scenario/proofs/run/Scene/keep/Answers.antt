@@ -1,4 +1,3 @@
-use Rattle.std.proofs.Common.{rules}
 use Rattle.scenario.proofs.Lemmas.Failing.{keeps-bad}
 use Rattle.scenario.proofs.run.Scene.keep.Goals as goal
 

@@ -1,4 +1,3 @@
-use Rattle.std.proofs.Common.{◌∙◌}
 use Rattle.scenario.specs.Staged.{play_of, stage_of}
 use Rattle.scenario.proofs.Lemmas.InTurn.{names-item}
 use Rattle.scenario.proofs.run.Scene.name_each.Goals as goal

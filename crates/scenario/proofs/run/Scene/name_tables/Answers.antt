@@ -1,4 +1,3 @@
-use Rattle.std.proofs.Common.{◌∙◌}
 use Rattle.scenario.specs.Staged.{play_of, stage_of}
 use Rattle.scenario.proofs.Lemmas.InTurn.{names-turn}
 use Rattle.scenario.proofs.run.Scene.name_tables.Goals as goal

@@ -1,4 +1,4 @@
-use Rattle.std.proofs.Common.{◌≡◌, take}
+use Rattle.std.proofs.Common.{take}
 use Rattle.scenario.specs.InTurn.{NamesTables, tables_in}
 use Rattle.scenario.specs.Staged.{play_of, stage_of}
 use Rattle.scenario.proofs.run.Scene.name_tables.Given as goal

@@ -1,4 +1,4 @@
-use Rattle.std.proofs.Common.{◌∙◌, Bool, subst}
+use Rattle.std.proofs.Common.{Bool, subst}
 use Rattle.scenario.specs.Played.{IsPassHeard}
 use Rattle.scenario.proofs.Lemmas.Playing.{gone_on-more}
 use Rattle.scenario.proofs.run.Scene.poll_all.Goals as goal

@@ -1,4 +1,4 @@
-use Rattle.std.proofs.Common.{◌≡◌, length}
+use Rattle.std.proofs.Common.{length}
 use Rattle.scenario.proofs.Lemmas.Playing.{HaveGoneOn}
 use Rattle.scenario.proofs.run.Scene.poll_all.Given as goal
 

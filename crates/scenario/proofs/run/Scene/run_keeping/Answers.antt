@@ -1,4 +1,4 @@
-use Rattle.std.proofs.Common.{◌∙◌, rules, Result}
+use Rattle.std.proofs.Common.{rules, Result}
 use Rattle.lock_script.specs.declared.faults.Fault.{Fault}
 use Rattle.scenario.specs.Acts.{IsKeptHeard}
 use Rattle.scenario.specs.Staged.{play_of, stage_of}
@@ -24,52 +24,63 @@ lines-preserved g c =
           (rw c.as_str.ensures at done.2);
     }
 
-pub returns-in_err-line-clause-played : goal.returns-in_err-line-clause-played
-returns-in_err-line-clause-played g c =
-    of-error (λ (ended : Result (Unit {0}) Fault). IsKeptHeard g.B.Board.seat g.B.Board.view g.B.Board.stack g.D.ScriptDesk.again g.D.ScriptDesk.database_of g.D.ScriptDesk.entries g.L.Listener.hears
-    c.args.keeping.speaks c.args.keeping.keeps (g.R.Read.remaining c.args.reader) (record { sessions = c.args.self.now.state.sessions; names = c.args.self.now.state.names })
-    c.args.self.now.listener ended c.lines.self.listener) c.from_residual.result c.in_err-line.field-0.0 c.from_residual.ensures.1
-    (λ silent. ends-unread g.B.Board.seat g.B.Board.view g.B.Board.stack g.D.ScriptDesk.again g.D.ScriptDesk.database_of g.D.ScriptDesk.entries g.L.Listener.hears
-    c.args.self.now.listener c.args.keeping.speaks c.args.keeping.keeps (g.R.Read.remaining c.args.reader)
-    (record { sessions = c.args.self.now.state.sessions; names = c.args.self.now.state.names }) c.lines.lines.number c.lines.lines.source.left
-    (stage_of c.lines.self.state.sessions c.lines.self.state.names c.lines.self.listener) c.lines.kept c.in_err-line.field-0.0 c.lines.invariant.so_far
-    c.in_err-line.ensures.reads)
+pub returns-in_err-line : goal.returns-in_err-line
+returns-in_err-line g c = record {
+  played =
+      of-error (λ (ended : Result (Unit {0}) Fault). IsKeptHeard g.B.Board.seat g.B.Board.view g.B.Board.stack g.D.ScriptDesk.again g.D.ScriptDesk.database_of g.D.ScriptDesk.entries g.L.Listener.hears
+      c.args.keeping.speaks c.args.keeping.keeps (g.R.Read.remaining c.args.reader) (record { sessions = c.args.self.now.state.sessions; names = c.args.self.now.state.names })
+      c.args.self.now.listener ended c.lines.self.listener) c.from_residual.result c.in_err-line.field-0.0 c.from_residual.ensures.1
+      (λ silent. ends-unread g.B.Board.seat g.B.Board.view g.B.Board.stack g.D.ScriptDesk.again g.D.ScriptDesk.database_of g.D.ScriptDesk.entries g.L.Listener.hears
+      c.args.self.now.listener c.args.keeping.speaks c.args.keeping.keeps (g.R.Read.remaining c.args.reader)
+      (record { sessions = c.args.self.now.state.sessions; names = c.args.self.now.state.names }) c.lines.lines.number c.lines.lines.source.left
+      (stage_of c.lines.self.state.sessions c.lines.self.state.names c.lines.self.listener) c.lines.kept c.in_err-line.field-0.0 c.lines.invariant.so_far
+      c.in_err-line.ensures.reads);
+}
 
-pub returns-in_err-hear_line-clause-played : goal.returns-in_err-hear_line-clause-played
-returns-in_err-hear_line-clause-played g c =
-    of-error (λ (ended : Result (Unit {0}) Fault). IsKeptHeard g.B.Board.seat g.B.Board.view g.B.Board.stack g.D.ScriptDesk.again g.D.ScriptDesk.database_of g.D.ScriptDesk.entries g.L.Listener.hears
-    c.args.keeping.speaks c.args.keeping.keeps (g.R.Read.remaining c.args.reader) (record { sessions = c.args.self.now.state.sessions; names = c.args.self.now.state.names })
-    c.args.self.now.listener ended c.hear_line.new.self.listener) c.from_residual-in_err-hear_line.result c.in_err-hear_line.field-0.0
-    c.from_residual-in_err-hear_line.ensures.1
-    (λ silent. ends-badly g.B.Board.seat g.B.Board.view g.B.Board.stack g.D.ScriptDesk.again g.D.ScriptDesk.database_of g.D.ScriptDesk.entries g.L.Listener.hears
-    c.args.self.now.listener c.args.keeping.speaks c.args.keeping.keeps (g.R.Read.remaining c.args.reader)
-    (record { sessions = c.args.self.now.state.sessions; names = c.args.self.now.state.names }) c.lines.lines.number c.next_line.new.self.number
-    c.lines.lines.source.left (stage_of c.lines.self.state.sessions c.lines.self.state.names c.lines.self.listener)
-    (stage_of c.hear_line.new.self.state.sessions c.hear_line.new.self.state.names c.hear_line.new.self.listener) c.lines.kept c.in-Some.line
-    c.in_err-hear_line.field-0.0 c.lines.invariant.so_far (rw c.in-Some.is at c.in_ok-line.ensures.reads) (rw c.in-Some.is at c.in_ok-line.ensures.number)
-    (rw c.as_str.ensures at c.in_err-hear_line.ensures.bad (c.lines.invariant.silent silent)))
+pub returns-in_err-hear_line : goal.returns-in_err-hear_line
+returns-in_err-hear_line g c = record {
+  played =
+      of-error (λ (ended : Result (Unit {0}) Fault). IsKeptHeard g.B.Board.seat g.B.Board.view g.B.Board.stack g.D.ScriptDesk.again g.D.ScriptDesk.database_of g.D.ScriptDesk.entries g.L.Listener.hears
+      c.args.keeping.speaks c.args.keeping.keeps (g.R.Read.remaining c.args.reader) (record { sessions = c.args.self.now.state.sessions; names = c.args.self.now.state.names })
+      c.args.self.now.listener ended c.hear_line.new.self.listener) c.from_residual-in_err-hear_line.result c.in_err-hear_line.field-0.0
+      c.from_residual-in_err-hear_line.ensures.1
+      (λ silent. ends-badly g.B.Board.seat g.B.Board.view g.B.Board.stack g.D.ScriptDesk.again g.D.ScriptDesk.database_of g.D.ScriptDesk.entries g.L.Listener.hears
+      c.args.self.now.listener c.args.keeping.speaks c.args.keeping.keeps (g.R.Read.remaining c.args.reader)
+      (record { sessions = c.args.self.now.state.sessions; names = c.args.self.now.state.names }) c.lines.lines.number c.next_line.new.self.number
+      c.lines.lines.source.left (stage_of c.lines.self.state.sessions c.lines.self.state.names c.lines.self.listener)
+      (stage_of c.hear_line.new.self.state.sessions c.hear_line.new.self.state.names c.hear_line.new.self.listener) c.lines.kept c.in-Some.line
+      c.in_err-hear_line.field-0.0 c.lines.invariant.so_far (rw c.in-Some.is at c.in_ok-line.ensures.reads) (rw c.in-Some.is at c.in_ok-line.ensures.number)
+      (rw c.as_str.ensures at c.in_err-hear_line.ensures.bad (c.lines.invariant.silent silent)));
+}
 
-pub returns-in-Err-clause-played : goal.returns-in-Err-clause-played
-returns-in-Err-clause-played g c = λ silent.
-    let spoke = c.finish.ensures (c.lines.invariant.silent silent) in
-    absurd (rw c.in-Err.is at spoke)
+pub returns-in-Err : goal.returns-in-Err
+returns-in-Err g c = record {
+  played =
+      λ silent.
+      let spoke = rw c.in-Err.is at c.finish.ensures (c.lines.invariant.silent silent) in
+      let never : ⊥ = cc in absurd never;
+}
 
-pub returns-in_err-tell_end-clause-played : goal.returns-in_err-tell_end-clause-played
-returns-in_err-tell_end-clause-played g c =
-    of-error (λ (ended : Result (Unit {0}) Fault). IsKeptHeard g.B.Board.seat g.B.Board.view g.B.Board.stack g.D.ScriptDesk.again g.D.ScriptDesk.database_of g.D.ScriptDesk.entries g.L.Listener.hears
-    c.args.keeping.speaks c.args.keeping.keeps (g.R.Read.remaining c.args.reader) (record { sessions = c.args.self.now.state.sessions; names = c.args.self.now.state.names })
-    c.args.self.now.listener ended c.tell_end.new.self.listener) c.from_residual-in_err-tell_end.result c.in_err-tell_end.field-0.0
-    c.from_residual-in_err-tell_end.ensures.1 (λ silent. unless-unheard c.in_err-tell_end.field-0.0 c.in_err-tell_end.ensures.unheard)
+pub returns-in_err-tell_end : goal.returns-in_err-tell_end
+returns-in_err-tell_end g c = record {
+  played =
+      of-error (λ (ended : Result (Unit {0}) Fault). IsKeptHeard g.B.Board.seat g.B.Board.view g.B.Board.stack g.D.ScriptDesk.again g.D.ScriptDesk.database_of g.D.ScriptDesk.entries g.L.Listener.hears
+      c.args.keeping.speaks c.args.keeping.keeps (g.R.Read.remaining c.args.reader) (record { sessions = c.args.self.now.state.sessions; names = c.args.self.now.state.names })
+      c.args.self.now.listener ended c.tell_end.new.self.listener) c.from_residual-in_err-tell_end.result c.in_err-tell_end.field-0.0
+      c.from_residual-in_err-tell_end.ensures.1 (λ silent. unless-unheard _ c.in_err-tell_end.field-0.0 c.in_err-tell_end.ensures.unheard);
+}
 
-pub returns-clause-played : goal.returns-clause-played
-returns-clause-played g c =
-    ends-well g.B.Board.seat g.B.Board.view g.B.Board.stack g.D.ScriptDesk.again g.D.ScriptDesk.database_of g.D.ScriptDesk.entries g.L.Listener.hears
-    c.args.self.now.listener c.args.keeping.speaks c.args.keeping.keeps (g.R.Read.remaining c.args.reader)
-    (record { sessions = c.args.self.now.state.sessions; names = c.args.self.now.state.names }) c.lines.lines.number c.lines.lines.source.left
-    (stage_of c.lines.self.state.sessions c.lines.self.state.names c.lines.self.listener) c.lines.kept
-    (record { sessions = c.tell_end.new.self.state.sessions; names = c.tell_end.new.self.state.names }) c.tell_left.new.self.listener c.tell_left.result
-    c.lines.invariant.so_far (search rules)
-    (on-ok c.tell_left.result
-    (λ left. end-heard g.L.Listener.hears c.lines.self.listener c.tell_end.new.self.listener c.tell_left.new.self.listener
-    (record { sessions = c.tell_end.new.self.state.sessions; names = c.tell_end.new.self.state.names }) c.lines.kept c.in_ok-tell_end.ensures.heard left)
-    c.tell_left.ensures.heard) c.tell_left.ensures.unheard
+pub returns : goal.returns
+returns g c = record {
+  played =
+      ends-well g.B.Board.seat g.B.Board.view g.B.Board.stack g.D.ScriptDesk.again g.D.ScriptDesk.database_of g.D.ScriptDesk.entries g.L.Listener.hears
+      c.args.self.now.listener c.args.keeping.speaks c.args.keeping.keeps (g.R.Read.remaining c.args.reader)
+      (record { sessions = c.args.self.now.state.sessions; names = c.args.self.now.state.names }) c.lines.lines.number c.lines.lines.source.left
+      (stage_of c.lines.self.state.sessions c.lines.self.state.names c.lines.self.listener) c.lines.kept
+      (record { sessions = c.tell_end.new.self.state.sessions; names = c.tell_end.new.self.state.names }) c.tell_left.new.self.listener c.tell_left.result
+      c.lines.invariant.so_far (search rules)
+      (on-ok c.tell_left.result
+      (λ left. end-heard g.L.Listener.hears c.lines.self.listener c.tell_end.new.self.listener c.tell_left.new.self.listener
+      (record { sessions = c.tell_end.new.self.state.sessions; names = c.tell_end.new.self.state.names }) c.lines.kept c.in_ok-tell_end.ensures.heard left)
+      c.tell_left.ensures.heard) c.tell_left.ensures.unheard;
+}

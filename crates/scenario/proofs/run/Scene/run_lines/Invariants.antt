@@ -1,4 +1,4 @@
-use Rattle.std.proofs.Common.{◌≡◌, ◌-◌}
+use Rattle.std.proofs.Common.{◌-◌}
 use Rattle.scenario.proofs.Lemmas.Lines.{HavePlayed}
 use Rattle.scenario.proofs.run.Scene.run_lines.Given as goal
 

@@ -1,4 +1,4 @@
-use Rattle.std.proofs.Common.{◌∙◌, rules, Result}
+use Rattle.std.proofs.Common.{rules, Result}
 use Rattle.std.specs.Prelude.{IfErr}
 use Rattle.lock_script.specs.declared.faults.Fault.{Fault}
 use Rattle.scenario.specs.InTurn.{FailsKept, IsBad, said_by}

@@ -1,4 +1,3 @@
-use Rattle.std.proofs.Common.{◌≡◌}
 use Rattle.lock_script.specs.Kept.{kept_count}
 use Rattle.scenario.specs.Staged.{play_of, stage_of}
 use Rattle.scenario.proofs.Lemmas.InTurn.{HaveRun}

@@ -1,7 +1,9 @@
-use Rattle.std.proofs.Common.{inl, inr, ap, rules, Result, Err}
+use Rattle.std.proofs.Common.{◌≡◌, inl, inr, ap, rules, Result, Err}
 use Rattle.std.specs.Prelude.{IfErr}
 use Rattle.lock_script.specs.declared.faults.Fault.{Fault}
+use Rattle.scenario.specs.Heard.{Kept}
 use Rattle.scenario.specs.InTurn.{FailsIn, FailsKept, FailsNow, IsBad}
+use Rattle.scenario.specs.Scripts.{ScriptLine}
 use Rattle.scenario.specs.Staged.{play_of, stage_of}
 use Rattle.scenario.proofs.Lemmas.Failing.{bad-so, now-bad}
 use Rattle.scenario.proofs.Lemmas.InTurn.{on-ok, takes-kept}
@@ -17,7 +19,9 @@ returns-in-Some-clause-taken g c =
 
 pub returns-in-Some-clause-bad : goal.returns-in-Some-clause-bad
 returns-in-Some-clause-bad g c =
-    bad-so _
+    bad-so
+    (λ bad _ now. (bad ≡ record { number = c.args.line.number; text = c.args.line.text.now })
+    × g.L.Listener.hears c.args.self.now.listener (Kept c.args.line.number c.args.line.text.now) now)
     (FailsIn (play_of g.B.Board.seat g.B.Board.view g.B.Board.stack g.D.ScriptDesk.again g.D.ScriptDesk.database_of g.D.ScriptDesk.entries g.L.Listener.hears)
     (stage_of c.args.self.now.state.sessions c.args.self.now.state.names c.args.self.now.listener) c.args.kept.now
     (record { number = c.args.line.number; text = c.args.line.text.now }))
@@ -34,7 +38,7 @@ returns-in_err-run_line-in-None-clause-bad g c =
     let play = play_of g.B.Board.seat g.B.Board.view g.B.Board.stack g.D.ScriptDesk.again g.D.ScriptDesk.database_of g.D.ScriptDesk.entries g.L.Listener.hears in
     let old = stage_of c.args.self.now.state.sessions c.args.self.now.state.names c.args.self.now.listener in
     let new = stage_of c.run_line.new.self.state.sessions c.run_line.new.self.state.names c.run_line.new.self.listener in
-    let line = record { number = c.args.line.number; text = c.args.line.text.now } in
+    let line : ScriptLine = record { number = c.args.line.number; text = c.args.line.text.now } in
     of-error (λ (ended : Result (Unit {0}) Fault). IfErr ended (IsBad (FailsIn play old c.args.kept.now line) new)) c.from_residual.result
     c.in_err-run_line-in-None.field-0.0 c.from_residual.ensures.1
     (bad-so (FailsNow play old c.args.kept.now line) (FailsIn play old c.args.kept.now line) new new (Err c.in_err-run_line-in-None.field-0.0)
@@ -60,6 +64,6 @@ returns-in_ok-run_line-in-None-clause-bad g c =
     let old = stage_of c.args.self.now.state.sessions c.args.self.now.state.names c.args.self.now.listener in
     let mid = stage_of c.run_line.new.self.state.sessions c.run_line.new.self.state.names c.run_line.new.self.listener in
     let new = stage_of c.run_ready.new.self.state.sessions c.run_ready.new.self.state.names c.run_ready.new.self.listener in
-    let line = record { number = c.args.line.number; text = c.args.line.text.now } in
+    let line : ScriptLine = record { number = c.args.line.number; text = c.args.line.text.now } in
     bad-so (FailsKept play mid c.args.kept.now) (FailsIn play old c.args.kept.now line) new new c.run_ready.result
     (λ bad what it. inr (search rules, inr (mid, c.in_ok-run_line-in-None.ensures.played, it))) c.run_ready.ensures.bad

@@ -1,4 +1,4 @@
-use Rattle.std.proofs.Common.{◌∙◌, string_bytes}
+use Rattle.std.proofs.Common.{string_bytes}
 use Rattle.scenario.specs.Staged.{play_of, stage_of}
 use Rattle.scenario.proofs.Lemmas.InTurn.{takes-item}
 use Rattle.scenario.proofs.run.Scene.take_in_each.Goals as goal

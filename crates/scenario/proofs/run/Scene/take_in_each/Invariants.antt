@@ -1,4 +1,4 @@
-use Rattle.std.proofs.Common.{◌≡◌, map, string_bytes, take}
+use Rattle.std.proofs.Common.{map, string_bytes, take}
 use Rattle.scenario.specs.InTurn.{TakesInEach, lines_at}
 use Rattle.scenario.specs.Staged.{play_of, stage_of}
 use Rattle.scenario.proofs.run.Scene.take_in_each.Given as goal

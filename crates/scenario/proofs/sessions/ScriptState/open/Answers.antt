@@ -66,28 +66,33 @@ invariant_of-self-clause-waiting g c =
     (λ one known. known-later _ _ _ _ (issued-grows g.D.ScriptDesk.again _ _ _ _ c.in-Ok.ensures.numbered) known)
     c.args.self.now.sessions.waiting c.args.self.now.waiting
 
-pub returns-in-Ok-clause-opened : goal.returns-in-Ok-clause-opened
-returns-in-Ok-clause-opened g c =
-    let number = c.id-session.ensures ∙ ap (λ (seat : Seated). seat.number) (sym (c.args.self.now.seats c.in-Ok.opened)) in
-    let numbered = subst (λ (n : ℕ). IsNumbered g.D.ScriptDesk.again g.D.ScriptDesk.manager.limit n (g.D.ScriptDesk.issued c.args.self.now.desk) (g.D.ScriptDesk.issued c.open.new.self))
-    (sym number) c.in-Ok.ensures.numbered in
-    let named = named-so g.D.ScriptDesk.again _ c.id-session.result _ _ c.args.name c.args.self.now.names.sessions c.put.new.self numbered c.args.self.now.named
-    c.put.ensures.next c.put.ensures.again in
-    inl (record {
-      session = c.in-Ok.opened;
-      of_database = c.in-Ok.ensures.database;
-      nothing = c.in-Ok.ensures.nothing;
-      answered = ap (λ (number : ℕ). answer.Said c.args.name (said.Opened number c.args.database)) c.id-session.ensures;
-      joins = c.put-in-Ok.ensures;
-      waiting = refl;
-      names = subst (λ (n : ℕ). IsNamed g.D.ScriptDesk.again n c.args.name c.args.self.now.names.sessions c.put.new.self) c.id-session.ensures named;
-      objects = refl;
-    })
+pub returns-in-Ok : goal.returns-in-Ok
+returns-in-Ok g c = record {
+  opened =
+      let number = c.id-session.ensures ∙ ap (λ (seat : Seated). seat.number) (sym (c.args.self.now.seats c.in-Ok.opened)) in
+      let numbered = subst (λ (n : ℕ). IsNumbered g.D.ScriptDesk.again g.D.ScriptDesk.manager.limit n (g.D.ScriptDesk.issued c.args.self.now.desk) (g.D.ScriptDesk.issued c.open.new.self))
+      (sym number) c.in-Ok.ensures.numbered in
+      let named = named-so g.D.ScriptDesk.again _ c.id-session.result _ _ c.args.name c.args.self.now.names.sessions c.put.new.self numbered c.args.self.now.named
+      c.put.ensures.next c.put.ensures.again in
+      inl (record {
+        session = c.in-Ok.opened;
+        of_database = c.in-Ok.ensures.database;
+        nothing = c.in-Ok.ensures.nothing;
+        answered = ap (λ (number : ℕ). answer.Said c.args.name (said.Opened number c.args.database)) c.id-session.ensures;
+        joins = c.put-in-Ok.ensures;
+        waiting = refl;
+        names = subst (λ (n : ℕ). IsNamed g.D.ScriptDesk.again n c.args.name c.args.self.now.names.sessions c.put.new.self) c.id-session.ensures named;
+        objects = refl;
+      });
+}
 
-pub returns-in-Err-clause-opened : goal.returns-in-Err-clause-opened
-returns-in-Err-clause-opened g c = inr (record {
-  refusal = c.in-Err.refusal;
-  why = c.in-Err.ensures.no_other;
-  answered = refl;
-  same = refl;
-})
+pub returns-in-Err : goal.returns-in-Err
+returns-in-Err g c = record {
+  opened =
+      inr (record {
+        refusal = c.in-Err.refusal;
+        why = c.in-Err.ensures.no_other;
+        answered = refl;
+        same = refl;
+      });
+}
