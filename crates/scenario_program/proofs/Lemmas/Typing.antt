@@ -11,7 +11,7 @@ use Rattle.lock_script.specs.declared.faults.Fault.{Fault}
 use Rattle.lock_script.specs.declared.faults.Fault.TheVariants.{BadLine, ReadFailed, WriteFailed, NoMemory, GateHeld}
 use Rattle.lock_world.specs.Account.{Account}
 use Rattle.shared_rule.specs.Boards.{Seated, Stack}
-use Rattle.scenario.specs.Acts.{UnlessUnheard, Writes}
+use Rattle.scenario.specs.Acts.{UnlessUnheard, Writes, no_cast}
 use Rattle.scenario.specs.Answers.{Cast}
 use Rattle.scenario.specs.Heard.{Heard, Hears, HearsAll, IsUnheard}
 use Rattle.scenario.specs.Printed.{IsFormOf, Prints}
@@ -22,7 +22,7 @@ use Rattle.scenario.proofs.Lemmas.Failing.{unless-unheard}
 use Rattle.scenario.proofs.Lemmas.Hearing.{hears-append}
 use Rattle.scenario.proofs.Lemmas.Printing.{heard-written}
 use Rattle.scenario_program.specs.Runs.{ArePassedOn}
-use Rattle.scenario_program.specs.Typed.{AnswersAll, AnswersTyped, AreNextTyped, AreTyped, EndsTyped, IsReadNext, IsTypedHeard, PlaysTyped, at_terminal, greeting, prompt}
+use Rattle.scenario_program.specs.Typed.{AnswersAll, AnswersTyped, AreNextTyped, AreTyped, EndsTyped, IsReadNext, IsTypedHeard, PlaysTyped, WritesTyped, at_terminal, greeting, prompt}
 use Rattle.scenario_program.proofs.Lemmas.Printing.{kept-written, unless-so}
 
 -- What is read next, where this number of lines was read: a text, or none where it isn't text.
@@ -272,16 +272,25 @@ shell-written {W} contents IsSo writer now old new ended was is form echo line (
     (subst (λ (it : W). Writes IsSo false false (contents old.writer) (contents it)) (sym is)
     (heard-written contents IsSo false false old new (subst (λ (it : Form). IsFormOf false it) (sym form) tt) echo line hears))) heard
 
--- What was written to a buffer stands in the writer behind it, unless that failed.
-pub typed-printed :
-    {W A : Type 0} (contents : W → Option (List ℕ)) (IsSo : Result (Unit {0}) Fault → List Heard → Type 0) (before : Option (List ℕ)) (buffered now : BufWriter W A)
-    (ended last : Result (Unit {0}) Fault) (output : Option W) → writer_contents contents buffered ≡ before →
-    UnlessUnheard ended (Writes (IsSo ended) false false (writer_contents contents buffered) (writer_contents contents now)) → ArePassedOn contents now ended output last →
-    UnlessUnheard last (IsSomeAnd output (λ writer. Writes (IsSo last) false false before (contents writer)))
-typed-printed contents IsSo before buffered now ended last output begins written (inr failed) =
-    subst (λ (it : Result (Unit {0}) Fault). UnlessUnheard it (IsSomeAnd output (λ writer. Writes (IsSo it) false false before (contents writer)))) (sym failed) tt
-typed-printed contents IsSo before buffered now ended last output begins written (inl (same, kept)) =
-    subst (λ (it : Result (Unit {0}) Fault). UnlessUnheard it (IsSomeAnd output (λ writer. Writes (IsSo it) false false before (contents writer)))) (sym same)
-    (unless-so ended
-    (λ all. kept-written contents (IsSo ended) false false before (writer_contents contents now) output kept
-    (subst (λ (it : Option (List ℕ)). Writes (IsSo ended) false false it (writer_contents contents now)) begins all)) written)
+module _
+    {B W : Type 0} (seat : B → Seated) (view : B → Account) (stack : B → Stack) (again : Bool) (database_of : SessionView B → ℕ) (entries : SessionView B → List Entry)
+    (contents : W → Option (List ℕ)) (is_terminal : Bool) (typed before : Option (List ℕ)) (output : Option W) where
+  -- This stands in the writer behind a buffer, for how the shell ended.
+  abbrev pub IsPrinted : Result (Unit {0}) Fault → Type 0
+  IsPrinted ended =
+      UnlessUnheard ended (IsSomeAnd output (λ writer. WritesTyped seat view stack again database_of entries is_terminal typed before ended (contents writer)))
+
+  -- What was written to a buffer stands in the writer behind it, unless that failed.
+  pub typed-printed :
+      {A : Type 0} (buffered now : BufWriter W A) (ended last : Result (Unit {0}) Fault) → writer_contents contents buffered ≡ before →
+      UnlessUnheard ended (WritesTyped seat view stack again database_of entries is_terminal typed (writer_contents contents buffered) ended (writer_contents contents now)) →
+      ArePassedOn contents now ended output last → IsPrinted last
+  typed-printed buffered now ended last begins written (inr failed) = subst (λ (it : Result (Unit {0}) Fault). IsPrinted it) (sym failed) tt
+  typed-printed buffered now ended last begins written (inl (same, kept)) =
+      subst (λ (it : Result (Unit {0}) Fault). IsPrinted it) (sym same)
+      (unless-so ended
+      (λ all. kept-written contents (PlaysTyped seat view stack again database_of entries is_terminal typed no_cast ended) false false before
+      (writer_contents contents now) output kept
+      (subst
+      (λ (it : Option (List ℕ)). WritesTyped seat view stack again database_of entries is_terminal typed it ended (writer_contents contents now)) begins all))
+      written)

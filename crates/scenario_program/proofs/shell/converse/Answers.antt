@@ -1,4 +1,4 @@
-use Rattle.std.proofs.Common.{[], ◌∷◌, codes, inl, inr, refl, rules, subst, sym, None, Some, Result, Err}
+use Rattle.std.proofs.Common.{[], ◌∷◌, codes, inl, inr, refl, rules, subst, sym, None, Some, Result, Ok, Err}
 use Rattle.lock_script.specs.declared.faults.Fault.{Fault}
 use Rattle.lock_script.specs.declared.faults.Fault.TheVariants.{ReadFailed}
 use Rattle.scenario.specs.Heard.{HearsAll, Helped}
@@ -17,7 +17,7 @@ returns-then-branch g c = record {
       typed-all g.B.Board.seat g.B.Board.view g.B.Board.stack g.D.ScriptDesk.again g.D.ScriptDesk.database_of g.D.ScriptDesk.entries c.args.shell.is_terminal g.L.Listener.hears (g.R.Read.remaining c.args.reader)
       (record { sessions = c.args.scene.now.state.sessions; names = c.args.scene.now.state.names }) c.args.scene.now.listener
       c.lines.lines.number c.lines.lines.source.left (record { sessions = c.lines.scene.state.sessions; names = c.lines.scene.state.names })
-      c.lines.scene.listener c.answer.new.scene.listener (Ok unit) (at_terminal c.args.shell.is_terminal prompt) c.lines.invariant.so_far
+      c.lines.scene.listener c.answer.new.scene.listener (Ok tt) (at_terminal c.args.shell.is_terminal prompt) c.lines.invariant.so_far
       (inl (c.in-Ok-Some.line, known (g.R.Read.remaining c.args.reader) (rw c.in-Ok-Some.field-0-is at c.in-Ok-Some.ensures.reads), rw c.as_str.ensures at leaves.0, refl))
       (subst (λ now. HearsAll g.L.Listener.hears c.lines.scene.listener (at_terminal c.args.shell.is_terminal prompt) now) (sym leaves.1) c.in_ok-prompt-2.ensures.prompted);
 }
