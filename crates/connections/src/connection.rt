@@ -18,8 +18,8 @@ pub struct Connection<B: Board<Part>, M: ManagerName> {
 }
 
 impl<B: Board<Part>, M: ManagerName> Connection<B, M> {
-    /// A connection that has `session`, of the manager that `M` names, in its life `life`: for a pool, and for a
-    /// program that opens its sessions itself.
+    /// A connection that has `session`, of the manager that `M` names, in its life `life`: for a pool, and
+    /// for a program that opens its sessions itself.
     pub fn new(session: OwnSession<Part, B>, life: u64) -> Self
         requires own { IsOf B.seat M.manager session }
         ensures session { result.session ≡ session }

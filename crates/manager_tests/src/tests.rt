@@ -157,7 +157,8 @@ fn tell_at<
     *slot = Some(desk);
 }
 
-/// Runs `desk_case` at the desk in `slot`. This function picks the manager that the types of connections name.
+/// Runs `desk_case` at the desk in `slot`. This function picks the manager that the types of connections
+/// name.
 fn tell_over<
     B: Board<Part> + Send,
     D: Desk<OwnSession<Part, B>> + Send + Drop,

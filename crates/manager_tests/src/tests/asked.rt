@@ -80,8 +80,8 @@ fn ask<B: Board<Part>, M: ManagerName, R: Wait>(
     connection.session.ask_cancel(ring.waiter);
 }
 
-/// Takes with `connection`, where `number` says that it is the holder, the mode that is to be in the way of the
-/// session that waits.
+/// Takes with `connection`, where `number` says that it is the holder, the mode that is to be in the way of
+/// the session that waits.
 fn prepare<B: Board<Part>, M: ManagerName, R: Abort + Wait>(
     rt: &R,
     connection: &mut Connection<B, M>,

@@ -87,8 +87,8 @@ fn expect_counted<R: Abort>(rt: &R, counted: Result<Audit, Refusal>, expected: N
     assert_eq!(rt; counted, Ok(expected));
 }
 
-/// Ends the test where an audit of all open sessions, those of `connections`, doesn't count `expected`, at the
-/// second attempt where there was no memory, since a failed attempt changes nothing.
+/// Ends the test where an audit of all open sessions, those of `connections`, doesn't count `expected`, at
+/// the second attempt where there was no memory, since a failed attempt changes nothing.
 pub fn count<B: Board<Part>, D: Desk<OwnSession<Part, B>>, M: ManagerName, R: Abort + Wait>(
     rt: &R,
     alloc: Global,

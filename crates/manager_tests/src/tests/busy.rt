@@ -22,8 +22,8 @@ fn is_busy<R: Abort>(rt: &R, answer: Answer) -> bool {
     }
 }
 
-/// Tries a weak mode by a slot with `connection`, and gives it back. Answers whether the lock of the slots was
-/// found taken, which is not waited for.
+/// Tries a weak mode by a slot with `connection`, and gives it back. Answers whether the lock of the slots
+/// was found taken, which is not waited for.
 fn find_busy<B: Board<Part>, M: ManagerName, R: Abort + Wait>(
     rt: &R,
     connection: &mut Connection<B, M>,
@@ -51,8 +51,8 @@ pub fn try_until_busy<B: Board<Part>, M: ManagerName, R: Abort + Wait>(
     }
 }
 
-/// Takes a strong mode with `connection`, and gives it back. On the way the session has the slots' locks of all
-/// sessions in hand in turn.
+/// Takes a strong mode with `connection`, and gives it back. On the way the session has the slots' locks of
+/// all sessions in hand in turn.
 fn go_past_slots<B: Board<Part>, M: ManagerName, R: Abort + Wait>(
     rt: &R,
     connection: &mut Connection<B, M>,

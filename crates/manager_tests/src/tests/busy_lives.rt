@@ -65,7 +65,7 @@ fn table_of(life: u32) -> Tag {
     Tag::relation(database_of(life), FIRST.saturating_add(life))
 }
 
-/// Whether a listed hold or wait of `connection` on `tag` is one of another session than the lent one, or of a
+/// Whether a listed hold or wait of `session` on `tag` is one of another session than the lent one, or of a
 /// connection from that numbered `first` to that numbered `last`.
 fn is_of_those(session: SessionId, tag: Tag, first: u32, last: u32) -> bool {
     if session.number() != LENT || tag == TABLE {
@@ -142,8 +142,8 @@ fn wait_and_be_asked<B: Board<Part>, M: ManagerName, R: Abort + Wait>(
     leave(rt, find_still(rt, waiting, true))
 }
 
-/// Does with `connection` what the connection numbered `life` does: it holds its table, unless a strong mode is
-/// in the way, and may wait.
+/// Does with `connection` what the connection numbered `life` does: it holds its table, unless a strong mode
+/// is in the way, and may wait.
 fn live<B: Board<Part>, M: ManagerName, R: Abort + Wait>(
     rt: &R,
     pool: &Lending<B, M>,
@@ -214,8 +214,8 @@ fn list_often<B: Board<Part>, M: ManagerName, R: Abort + Wait>(
     }
 }
 
-/// Takes the strongest mode with `connection` on the table of each connection that is there, until all is over:
-/// what the connection holds by a slot is moved to the table, and is in the way.
+/// Takes the strongest mode with `connection` on the table of each connection that is there, until all is
+/// over: what the connection holds by a slot is moved to the table, and is in the way.
 fn disturb_often<B: Board<Part>, M: ManagerName, R: Abort + Wait>(
     rt: &R,
     shown: &Shown,

@@ -162,7 +162,8 @@ impl Play for Watched<'_> {
     }
 }
 
-/// Has each of `connections` lock and unlock in a thread of its own, and shows to the watchdog that all is over.
+/// Has each of `connections` lock and unlock in a thread of its own, and shows to the watchdog that all is
+/// over.
 fn lock_until_over<
     B: Board<Part> + Send,
     M: ManagerName + Send,

@@ -29,7 +29,7 @@ impl Limits {
     }
 }
 
-/// What the entry numbered `number` of `connection` locks: the first ones go by slots, and the others, which no
+/// What the entry numbered `number` of `session` locks: the first ones go by slots, and the others, which no
 /// other session has, are in the table.
 fn entry(session: u16, number: u32) -> (Tag, Mode) {
     if number < BY_SLOT {

@@ -56,7 +56,8 @@ pub fn take_at_last<B: Board<Part>, M: ManagerName, R: Abort + Wait>(
     expect_granted(rt, answer, tag, mode);
 }
 
-/// Takes as many modes with `connection` as `MANY` says, each at the second attempt where there was no memory.
+/// Takes as many modes with `connection` as `MANY` says, each at the second attempt where there was no
+/// memory.
 fn take_many<B: Board<Part>, M: ManagerName, R: Abort + Wait>(
     rt: &R,
     connection: &mut Connection<B, M>,

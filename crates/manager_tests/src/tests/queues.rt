@@ -54,8 +54,8 @@ impl Tally {
     }
 }
 
-/// Waits until it is the turn of `connection` to join the queue: once the session with the number before its own
-/// waits. The first one to join does so after the holder, which `tally` shows.
+/// Waits until it is the turn of `connection` to join the queue: once the session with the number before its
+/// own waits. The first one to join does so after the holder, which `tally` shows.
 fn see_turn<B: Board<Part>, M: ManagerName, R: Wait>(
     rt: &R,
     tally: &Tally,
@@ -71,8 +71,8 @@ fn see_turn<B: Board<Part>, M: ManagerName, R: Wait>(
     }
 }
 
-/// Has `connection` join the queue in its turn, sleep until the wait is granted, and give the mode back, to the
-/// next one if that waits still.
+/// Has `connection` join the queue in its turn, sleep until the wait is granted, and give the mode back, to
+/// the next one if that waits still.
 fn sleep_and_pass_on<B: Board<Part>, M: ManagerName, R: Abort + Wait>(
     rt: &R,
     tally: &Tally,
@@ -85,8 +85,8 @@ fn sleep_and_pass_on<B: Board<Part>, M: ManagerName, R: Abort + Wait>(
     give_back(rt, connection, tally.mode);
 }
 
-/// Takes the table first with `connection`, and gives it back, which lets the others go, once all sleep, none of
-/// whom is woken.
+/// Takes the table first with `connection`, and gives it back, which lets the others go, once all sleep, none
+/// of whom is woken.
 fn release_once_asleep<B: Board<Part>, M: ManagerName, R: Abort + Wait>(
     rt: &R,
     tally: &Tally,

@@ -201,8 +201,8 @@ fn expect_none<B: Board<Part>, M: ManagerName, R: Abort>(rt: &R, connection: &Co
     assert_eq!(rt; connection.session.held(TABLE).mask(), 0);
 }
 
-/// Has the session that waits cancel its wait for the first of `modes` while `connection` gives back the second
-/// one.
+/// Has the session that waits cancel its wait for the first of `modes` while `connection` gives back the
+/// second one.
 fn cancel_on_loan<B: Board<Part> + Send, M: ManagerName + Send, R: Abort + Threads + Wait + Sync>(
     rt: &R,
     round: &Round<'_>,

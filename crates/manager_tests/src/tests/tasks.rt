@@ -91,8 +91,8 @@ pub struct Ended {
     pub is_first_ahead: bool,
 }
 
-/// Does with `connection` what the session on `side` is to do, once both sides have begun. If that is a request,
-/// answers what it was answered.
+/// Does with `connection` what the session on `side` is to do, once both sides have begun. If that is a
+/// request, answers what it was answered.
 fn act<B: Board<Part>, M: ManagerName, R: Abort + Wait>(
     rt: &R,
     shown: &Shown,

@@ -76,8 +76,8 @@ fn relation(place: usize) -> Tag
     Tag::relation(5, 20_000 | (place as u32))
 }
 
-/// Asks with `connection` for the strongest mode on the relation of the session at `next`, so that its hold is
-/// moved to the table, and gives back what it got.
+/// Asks with `connection` for the strongest mode on the relation of the session at `next`, so that its hold
+/// is moved to the table, and gives back what it got.
 fn disturb<B: Board<Part>, M: ManagerName, R: Abort + Wait>(
     rt: &R,
     connection: &mut Connection<B, M>,
@@ -87,7 +87,11 @@ fn disturb<B: Board<Part>, M: ManagerName, R: Abort + Wait>(
 {
     let tag = relation(next);
     let mode = Mode::AccessExclusive;
-    if connection.session.try_lock(rt, tag, mode, Owner::Transaction).is_ok() {
+    if connection
+        .session
+        .try_lock(rt, tag, mode, Owner::Transaction)
+        .is_ok()
+    {
         let released = connection.session.unlock(rt, tag, mode, Owner::Transaction);
         expect_released(rt, released, tag, mode);
     }
