@@ -125,7 +125,7 @@ fn note<R: Abort>(rt: &R, wins: &Wins, answer: Answer) {
 /// own.
 fn wait_and_be_asked<B: Board<Part>, M: ManagerName, R: Abort + Wait>(
     rt: &R,
-    pool: &Lending<B, M>,
+    lending: &Lending<B, M>,
     asker: &mut Connection<B, M>,
     connection: Connection<B, M>,
 ) -> Connection<B, M> {
@@ -135,9 +135,9 @@ fn wait_and_be_asked<B: Board<Part>, M: ManagerName, R: Abort + Wait>(
         life: now.life.wrapping_sub(1),
     };
     let waiting = queue(rt, connection, Mode::AccessShare);
-    let asked_before = pool.pool.ask_cancel(&mut asker.session, last);
+    let asked_before = lending.pool.ask_cancel(&mut asker.session, last);
     let waiting = find_still(rt, waiting, false);
-    let asked = pool.pool.ask_cancel(&mut asker.session, now);
+    let asked = lending.pool.ask_cancel(&mut asker.session, now);
     expect_asked(rt, asked_before, asked);
     leave(rt, find_still(rt, waiting, true))
 }
@@ -146,7 +146,7 @@ fn wait_and_be_asked<B: Board<Part>, M: ManagerName, R: Abort + Wait>(
 /// is in the way, and may wait.
 fn live<B: Board<Part>, M: ManagerName, R: Abort + Wait>(
     rt: &R,
-    pool: &Lending<B, M>,
+    lending: &Lending<B, M>,
     asker: &mut Connection<B, M>,
     mut connection: Connection<B, M>,
     life: u32,
@@ -156,26 +156,26 @@ fn live<B: Board<Part>, M: ManagerName, R: Abort + Wait>(
         .try_lock(rt, table_of(life), Mode::AccessShare, OWNER);
     thread::yield_now();
     if life % WAITS == 0 {
-        return wait_and_be_asked(rt, pool, asker, connection);
+        return wait_and_be_asked(rt, lending, asker, connection);
     }
     connection
 }
 
-/// Has the connection numbered `life` come and go, with the session that `pool` lends.
+/// Has the connection numbered `life` come and go, with the session that `lending` lends.
 fn live_once<B: Board<Part>, D: Desk<OwnSession<Part, B>>, M: ManagerName, R: Abort + Wait>(
     rt: &R,
     shown: &Shown,
     desk: &mut DeskOf<B, D, M>,
-    pool: &mut Lending<B, M>,
+    lending: &mut Lending<B, M>,
     asker: &mut Connection<B, M>,
     life: u32,
 ) {
     shown.life.store(life, Ordering::SeqCst);
-    let connection = pool
+    let connection = lending
         .open(rt, desk, database_of(life))
         .expect(rt, "a session");
-    let connection = live(rt, pool, asker, connection, life);
-    pool.close(rt, desk, connection);
+    let connection = live(rt, lending, asker, connection, life);
+    lending.close(rt, desk, connection);
     shown.watch.rounds.fetch_add(1, Ordering::SeqCst);
 }
 
@@ -184,13 +184,13 @@ fn serve<B: Board<Part>, D: Desk<OwnSession<Part, B>>, M: ManagerName, R: Abort 
     rt: &R,
     shown: &Shown,
     desk: &mut DeskOf<B, D, M>,
-    pool: &mut Lending<B, M>,
+    lending: &mut Lending<B, M>,
     asker: &mut Connection<B, M>,
     lives: u32,
 ) {
     take(rt, asker, Mode::AccessExclusive);
     for life in 0..lives {
-        live_once(rt, shown, desk, pool, asker, life);
+        live_once(rt, shown, desk, lending, asker, life);
     }
     give_back(rt, asker, Mode::AccessExclusive);
     shown.watch.is_over.store(true, Ordering::SeqCst);
@@ -260,7 +260,7 @@ fn look_on_watched<
     );
 }
 
-/// Has `lives` connections come and go with sessions of `pool`, while `lister` and `strong` do their part.
+/// Has `lives` connections come and go with sessions of `lending`, while `lister` and `strong` do their part.
 fn act_side_by_side<
     B: Board<Part> + Send,
     D: Desk<OwnSession<Part, B>> + Send,
@@ -270,7 +270,7 @@ fn act_side_by_side<
     rt: &R,
     shown: &Shown,
     desk: &mut DeskOf<B, D, M>,
-    pool: &mut Lending<B, M>,
+    lending: &mut Lending<B, M>,
     asker: &mut Connection<B, M>,
     lister: &mut Connection<B, M>,
     strong: &mut Connection<B, M>,
@@ -278,7 +278,7 @@ fn act_side_by_side<
 ) {
     join(
         rt,
-        || serve(rt, shown, desk, pool, asker, lives),
+        || serve(rt, shown, desk, lending, asker, lives),
         || look_on_watched(rt, shown, lister, strong),
     );
 }
@@ -300,12 +300,12 @@ pub fn come_and_go_beside<
     let mut lister = desk.open(rt);
     let mut strong = desk.open(rt);
     let pool = SessionPool::new(alloc).expect(rt, "a pool");
-    let mut pool = Lending::new(pool);
+    let mut lending = Lending::new(pool);
     act_side_by_side(
         rt,
         &shown,
         desk,
-        &mut pool,
+        &mut lending,
         &mut asker,
         &mut lister,
         &mut strong,
@@ -314,7 +314,7 @@ pub fn come_and_go_beside<
     shown
         .wins
         .expect_both(rt, "what a life holds against a strong mode");
-    pool.end(rt, desk);
+    lending.end(rt, desk);
     desk.close(rt, strong);
     desk.close(rt, lister);
     desk.close(rt, asker);

@@ -23,17 +23,17 @@ fn expect_life<R: Abort>(rt: &R, lent: SessionLife, number: u32, life: u32) {
     assert_eq!(rt; lent.life, u64::from(life));
 }
 
-/// Has `pool` lend a session of `desk`, which is the one numbered `number`, in the life numbered `life`. It
+/// Has `lending` lend a session of `desk`, which is the one numbered `number`, in the life numbered `life`. It
 /// takes an object of its own.
 fn lend_one<B: Board<Part>, D: Desk<OwnSession<Part, B>>, M: ManagerName, R: Abort + Wait>(
     rt: &R,
     desk: &mut DeskOf<B, D, M>,
-    pool: &mut Lending<B, M>,
+    lending: &mut Lending<B, M>,
     lent: &mut Vec<Connection<B, M>>,
     number: u32,
     life: u32,
 ) {
-    let mut connection = pool.open(rt, desk, 5).expect(rt, "a session");
+    let mut connection = lending.open(rt, desk, 5).expect(rt, "a session");
     expect_life(rt, connection.life(), number, life);
     let tag = Tag::object(5, 1_259, number, 0);
     let answer = connection
@@ -43,50 +43,50 @@ fn lend_one<B: Board<Part>, D: Desk<OwnSession<Part, B>>, M: ManagerName, R: Abo
     append(rt, lent, connection);
 }
 
-/// Has `pool` lend all sessions that there can be of `desk`, in the life numbered `life`, and refuse one
+/// Has `lending` lend all sessions that there can be of `desk`, in the life numbered `life`, and refuse one
 /// more.
 fn lend_all<B: Board<Part>, D: Desk<OwnSession<Part, B>>, M: ManagerName, R: Abort + Wait>(
     rt: &R,
     desk: &mut DeskOf<B, D, M>,
-    pool: &mut Lending<B, M>,
+    lending: &mut Lending<B, M>,
     lent: &mut Vec<Connection<B, M>>,
     life: u32,
 ) {
     for number in 0..SESSIONS {
-        lend_one(rt, desk, pool, lent, number, life);
+        lend_one(rt, desk, lending, lent, number, life);
     }
-    match pool.open(rt, desk, 5) {
+    match lending.open(rt, desk, 5) {
         Ok(connection) => append(rt, lent, connection),
         Err(refusal) => assert_eq!(rt; refusal, Refusal::NoMoreSessions),
     }
 }
 
-/// Gives all sessions of `desk` that are `lent` back to `pool`, the last one first.
+/// Gives all sessions of `desk` that are `lent` back to `lending`, the last one first.
 fn take_all_back<B: Board<Part>, D: Desk<OwnSession<Part, B>>, M: ManagerName, R: Abort + Wait>(
     rt: &R,
     desk: &mut DeskOf<B, D, M>,
-    pool: &mut Lending<B, M>,
+    lending: &mut Lending<B, M>,
     mut lent: Vec<Connection<B, M>>,
 ) {
     'lent: while let Some(connection) = lent.pop() {
-        pool.close(rt, desk, connection);
+        lending.close(rt, desk, connection);
     }
     lent.destroy_empty();
 }
 
-/// Has `pool` lend all sessions of `desk`, in the life numbered `life`, and take them back.
+/// Has `lending` lend all sessions of `desk`, in the life numbered `life`, and take them back.
 fn live_once<B: Board<Part>, D: Desk<OwnSession<Part, B>>, M: ManagerName, R: Abort + Wait>(
     rt: &R,
     alloc: Global,
     desk: &mut DeskOf<B, D, M>,
-    pool: &mut Lending<B, M>,
+    lending: &mut Lending<B, M>,
     life: u32,
 ) {
     let mut lent = Vec::new(alloc);
-    lend_all(rt, desk, pool, &mut lent, life);
+    lend_all(rt, desk, lending, &mut lent, life);
     assert_eq!(rt; lent.len(), SESSIONS as usize);
-    take_all_back(rt, desk, pool, lent);
-    assert_eq!(rt; pool.pool.free(), SESSIONS as usize);
+    take_all_back(rt, desk, lending, lent);
+    assert_eq!(rt; lending.pool.free(), SESSIONS as usize);
 }
 
 /// Has a pool lend all sessions of `desk`, over and over, each time in another life of theirs.
@@ -96,9 +96,9 @@ pub fn lend_often<B: Board<Part>, D: Desk<OwnSession<Part, B>>, M: ManagerName, 
     desk: &mut DeskOf<B, D, M>,
 ) {
     let pool = SessionPool::for_server(alloc, SESSIONS).expect(rt, "a pool");
-    let mut pool = Lending::new(pool);
+    let mut lending = Lending::new(pool);
     for life in 0..LIVES {
-        live_once(rt, alloc, desk, &mut pool, life);
+        live_once(rt, alloc, desk, &mut lending, life);
     }
-    pool.end(rt, desk);
+    lending.end(rt, desk);
 }

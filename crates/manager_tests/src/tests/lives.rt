@@ -54,34 +54,34 @@ fn take_and_leave<B: Board<Part>, M: ManagerName, R: Abort + Wait>(
     expect_granted(rt, answer, advisory, Mode::Exclusive);
 }
 
-/// Has a connection to `database` come and go, with a session of `pool`.
+/// Has a connection to `database` come and go, with a session of `lending`.
 fn live_once<B: Board<Part>, D: Desk<OwnSession<Part, B>>, M: ManagerName, R: Abort + Wait>(
     rt: &R,
     desk: &mut DeskOf<B, D, M>,
-    pool: &mut Lending<B, M>,
+    lending: &mut Lending<B, M>,
     database: u32,
 ) {
-    let mut connection = pool.open(rt, desk, database).expect(rt, "a session");
+    let mut connection = lending.open(rt, desk, database).expect(rt, "a session");
     take_and_leave(rt, &mut connection, database);
-    pool.close(rt, desk, connection);
+    lending.close(rt, desk, connection);
 }
 
-/// Has a connection of `pool` at `desk` end, and the next one, which has the same number, ask for a cancel of
+/// Has a connection of `lending` at `desk` end, and the next one, which has the same number, ask for a cancel of
 /// the first one's wait: that is answered as where nobody waits.
 fn ask_the_last_one<B: Board<Part>, D: Desk<OwnSession<Part, B>>, M: ManagerName, R: Abort + Wait>(
     rt: &R,
     desk: &mut DeskOf<B, D, M>,
-    pool: &mut Lending<B, M>,
+    lending: &mut Lending<B, M>,
 ) {
-    let connection = pool.open(rt, desk, 5).expect(rt, "a session");
+    let connection = lending.open(rt, desk, 5).expect(rt, "a session");
     let last = connection.life();
-    pool.close(rt, desk, connection);
-    let mut connection = pool.open(rt, desk, 6).expect(rt, "a session");
+    lending.close(rt, desk, connection);
+    let mut connection = lending.open(rt, desk, 6).expect(rt, "a session");
     let next = connection.life();
     let (last_life, next_life) = (last.life, next.life);
-    let asked = pool.pool.ask_cancel(&mut connection.session, last);
+    let asked = lending.pool.ask_cancel(&mut connection.session, last);
     expect_another_life(rt, last_life, next_life, asked);
-    pool.close(rt, desk, connection);
+    lending.close(rt, desk, connection);
 }
 
 /// Has `lives` connections come and go at `desk`, one after another, each with a session of one pool.
@@ -92,10 +92,10 @@ pub fn come_and_go<B: Board<Part>, D: Desk<OwnSession<Part, B>>, M: ManagerName,
     lives: u32,
 ) {
     let pool = SessionPool::new(alloc).expect(rt, "a pool");
-    let mut pool = Lending::new(pool);
+    let mut lending = Lending::new(pool);
     for life in 0..lives {
-        live_once(rt, desk, &mut pool, 5 + life % 2);
+        live_once(rt, desk, &mut lending, 5 + life % 2);
     }
-    ask_the_last_one(rt, desk, &mut pool);
-    pool.end(rt, desk);
+    ask_the_last_one(rt, desk, &mut lending);
+    lending.end(rt, desk);
 }

@@ -105,7 +105,7 @@ fn give_many_back<B: Board<Part>, M: ManagerName, R: Abort + Wait>(
 }
 
 /// Has a session of `desk` take many modes and give them back.
-pub fn go_on<B: Board<Part>, M: ManagerName, D: Desk<OwnSession<Part, B>>, R: Abort + Wait>(
+pub fn go_on<B: Board<Part>, D: Desk<OwnSession<Part, B>>, M: ManagerName, R: Abort + Wait>(
     rt: &R,
     desk: &mut DeskOf<B, D, M>,
 ) {
