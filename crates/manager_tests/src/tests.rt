@@ -29,6 +29,7 @@ mod pair;
 mod queues;
 mod races;
 mod servers;
+mod sessions;
 mod side_by_side;
 mod tasks;
 mod threads;

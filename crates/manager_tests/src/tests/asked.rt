@@ -3,6 +3,7 @@
 
 use super::answers::Answer;
 use super::gates::{Gate, Wins};
+use super::sessions::{acquire, commit};
 use super::side_by_side::{Play, play_side_by_side};
 use super::waits::{OWNER, TABLE, give_back, see_wait, take};
 use connections::{Connection, ManagerName};
@@ -46,14 +47,12 @@ fn wait_or_leave<B: Board<Part>, M: ManagerName, R: Abort + Wait>(
     ring: &Ring,
     connection: &mut Connection<B, M>,
 ) {
-    let answer = connection
-        .session
-        .acquire(rt, TABLE, Mode::AccessShare, OWNER);
+    let answer = acquire(rt, connection, TABLE, Mode::AccessShare, OWNER);
     let count = connection
         .session
         .owner_count(TABLE, Mode::AccessShare, OWNER);
     expect_fit(rt, &ring.wins, answer, count);
-    connection.session.commit(rt);
+    commit(rt, connection);
 }
 
 /// Plays the holder, which gives back in round `round`.

@@ -3,6 +3,7 @@
 
 use super::desk::{Beginning, DeskOf, open_behind};
 use super::memory::{list_at_last, take_at_last};
+use super::sessions::commit;
 use connections::{Connection, ManagerName};
 use lock_manager::Mode::{
     AccessExclusive, AccessShare, RowExclusive, RowShare, Share, ShareRowExclusive,
@@ -110,7 +111,7 @@ fn end<B: Board<Part>, M: ManagerName, R: Wait>(
     is_good: bool,
 ) {
     if is_good {
-        connection.session.commit(rt);
+        commit(rt, connection);
     } else {
         connection.session.abort(rt);
     }

@@ -3,6 +3,7 @@
 use super::answers::Answer;
 use super::pair::Pair;
 use super::races::see_nothing;
+use super::sessions::{commit, try_fast};
 use super::tasks::{Task, act_side_by_side};
 use super::waits::{OWNER, TABLE, take};
 use connections::{Connection, ManagerName};
@@ -28,11 +29,11 @@ fn find_busy<B: Board<Part>, M: ManagerName, R: Abort + Wait>(
     rt: &R,
     connection: &mut Connection<B, M>,
 ) -> bool {
-    let answer = connection.session.try_fast(TABLE, Mode::AccessShare, OWNER);
+    let answer = try_fast(connection, TABLE, Mode::AccessShare, OWNER);
     if is_busy(rt, answer) {
         return true;
     }
-    connection.session.commit(rt);
+    commit(rt, connection);
     false
 }
 
@@ -58,7 +59,7 @@ fn go_past_slots<B: Board<Part>, M: ManagerName, R: Abort + Wait>(
     connection: &mut Connection<B, M>,
 ) {
     take(rt, connection, Mode::Share);
-    connection.session.commit(rt);
+    commit(rt, connection);
 }
 
 /// Takes strong modes with `connection` over and over, until `is_seen` is set.

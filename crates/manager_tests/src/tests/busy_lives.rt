@@ -5,6 +5,7 @@ use super::answers::Answer;
 use super::crowds::{Watch, guard};
 use super::desk::{DeskOf, Lending};
 use super::gates::Wins;
+use super::sessions::{commit, list, try_lock};
 use super::waits::{OWNER, TABLE, find_still, give_back, leave, queue, take};
 use connections::{Connection, ManagerName};
 use lock_manager::{
@@ -151,9 +152,13 @@ fn live<B: Board<Part>, M: ManagerName, R: Abort + Wait>(
     mut connection: Connection<B, M>,
     life: u32,
 ) -> Connection<B, M> {
-    let _answer = connection
-        .session
-        .try_lock(rt, table_of(life), Mode::AccessShare, OWNER);
+    let _answer = try_lock(
+        rt,
+        &mut connection,
+        table_of(life),
+        Mode::AccessShare,
+        OWNER,
+    );
     thread::yield_now();
     if life % WAITS == 0 {
         return wait_and_be_asked(rt, lending, asker, connection);
@@ -208,7 +213,7 @@ fn list_often<B: Board<Part>, M: ManagerName, R: Abort + Wait>(
             return;
         }
         let first = shown.life();
-        let listing = connection.session.list(rt).expect(rt, "a listing");
+        let listing = list(rt, connection).expect(rt, "a listing");
         let are_right = are_of_those(&listing, first, shown.life());
         assert!(rt; are_right, "a row of a life that was over");
     }
@@ -225,11 +230,15 @@ fn disturb_often<B: Board<Part>, M: ManagerName, R: Abort + Wait>(
         if shown.is_over() {
             return;
         }
-        let answer = connection
-            .session
-            .try_lock(rt, table_of(shown.life()), Mode::AccessExclusive, OWNER);
+        let answer = try_lock(
+            rt,
+            connection,
+            table_of(shown.life()),
+            Mode::AccessExclusive,
+            OWNER,
+        );
         note(rt, &shown.wins, answer);
-        connection.session.commit(rt);
+        commit(rt, connection);
     }
 }
 

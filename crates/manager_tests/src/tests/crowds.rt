@@ -2,8 +2,9 @@
 //! watchdog that ends the test where nobody goes on. So no session sleeps for ever in the wait list of the
 //! partition's lightweight lock, or in the object's queue.
 
-use super::answers::{expect_granted, expect_released};
+use super::answers::expect_granted;
 use super::gates::Gate;
+use super::sessions::{acquire, give_tag_back, try_lock};
 use super::side_by_side::{Play, play_side_by_side};
 use connections::{Connection, ManagerName};
 use lock_manager::{Board, Mode, Owner, Part, Tag};
@@ -121,18 +122,11 @@ fn lock_once<B: Board<Part>, M: ManagerName, R: Abort + Wait>(
     tag: Tag,
 ) {
     let answer = match takes {
-        Takes::OwnObjects => connection
-            .session
-            .try_lock(rt, tag, Mode::Exclusive, Owner::Transaction),
-        Takes::OneObject => connection
-            .session
-            .acquire(rt, tag, Mode::Exclusive, Owner::Transaction),
+        Takes::OwnObjects => try_lock(rt, connection, tag, Mode::Exclusive, Owner::Transaction),
+        Takes::OneObject => acquire(rt, connection, tag, Mode::Exclusive, Owner::Transaction),
     };
     expect_granted(rt, answer, tag, Mode::Exclusive);
-    let released = connection
-        .session
-        .unlock(rt, tag, Mode::Exclusive, Owner::Transaction);
-    expect_released(rt, released, tag, Mode::Exclusive);
+    give_tag_back(rt, connection, tag, Mode::Exclusive, Owner::Transaction);
 }
 
 /// A crowd whose sessions show the watchdog what they do.

@@ -1,7 +1,7 @@
 //! A pool of a server's sessions, which lends them and takes them back, those with numbers above 64 too.
 
-use super::answers::expect_granted;
 use super::desk::{DeskOf, Lending, append};
+use super::sessions::take_tag;
 use connections::{Connection, ManagerName};
 use lock_manager::{
     Board, Desk, MOST_SESSIONS, Mode, OwnSession, Owner, Part, Refusal, SessionLife, SessionPool,
@@ -36,10 +36,7 @@ fn lend_one<B: Board<Part>, D: Desk<OwnSession<Part, B>>, M: ManagerName, R: Abo
     let mut connection = lending.open(rt, desk, 5).expect(rt, "a session");
     expect_life(rt, connection.life(), number, life);
     let tag = Tag::object(5, 1_259, number, 0);
-    let answer = connection
-        .session
-        .try_lock(rt, tag, Mode::Exclusive, Owner::Session);
-    expect_granted(rt, answer, tag, Mode::Exclusive);
+    take_tag(rt, &mut connection, tag, Mode::Exclusive, Owner::Session);
     append(rt, lent, connection);
 }
 

@@ -1,8 +1,9 @@
 //! As many local entries as there may be, of one session and of all: granted, counted, listed and given back.
 
-use super::answers::{expect_granted, expect_rows};
+use super::answers::expect_rows;
 use super::audits::{NOTHING, Numbers, count, end_each};
 use super::desk::{Beginning, DeskOf, open_many};
+use super::sessions::{list, take_tag, try_lock};
 use connections::{Connection, ManagerName};
 use lock_manager::{Board, Desk, Mode, OwnSession, Owner, Part, Refusal, Tag};
 use std::alloc::Global;
@@ -48,15 +49,10 @@ pub fn fill<B: Board<Part>, M: ManagerName, R: Abort + Wait>(
     let number = connection.session.id().number();
     for at in 0..entries {
         let (tag, mode) = entry(number, at);
-        let answer = connection
-            .session
-            .try_lock(rt, tag, mode, Owner::Transaction);
-        expect_granted(rt, answer, tag, mode);
+        take_tag(rt, connection, tag, mode, Owner::Transaction);
     }
     let (tag, mode) = entry(number, entries);
-    let answer = connection
-        .session
-        .try_lock(rt, tag, mode, Owner::Transaction);
+    let answer = try_lock(rt, connection, tag, mode, Owner::Transaction);
     assert_eq!(rt; answer, Err(Refusal::LocalFull), "{entries} entries");
 }
 
@@ -68,7 +64,7 @@ pub fn list_all<B: Board<Part>, M: ManagerName, R: Abort + Wait>(
 ) {
     let (fast, table, _) = expected;
     if let Some(connection) = connections.last_mut() {
-        let listing = connection.session.list(rt).expect(rt, "a listing");
+        let listing = list(rt, connection).expect(rt, "a listing");
         expect_rows(rt, &listing, fast as usize, table as usize);
     }
 }

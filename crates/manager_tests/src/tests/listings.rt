@@ -1,7 +1,8 @@
 //! Listings of hundreds of rows, of all partitions.
 
-use super::answers::{expect_granted, expect_rows};
+use super::answers::expect_rows;
 use super::pair::Pair;
+use super::sessions::{list, take_tag};
 use connections::{Connection, ManagerName};
 use lock_manager::{Board, Mode, Owner, Part, TableRow, Tag};
 use std::process::Abort;
@@ -16,10 +17,7 @@ fn share_many<B: Board<Part>, M: ManagerName, R: Abort + Wait>(
 ) {
     for number in 0..MANY {
         let tag = Tag::object(5, 1_259, number * 77 % MANY, 0);
-        let answer = connection
-            .session
-            .try_lock(rt, tag, Mode::Share, Owner::Session);
-        expect_granted(rt, answer, tag, Mode::Share);
+        take_tag(rt, connection, tag, Mode::Share, Owner::Session);
     }
 }
 
@@ -43,7 +41,7 @@ fn expect_order<R: Abort>(rt: &R, rows: &[TableRow]) {
 pub fn list_many<B: Board<Part>, M: ManagerName, R: Abort + Wait>(rt: &R, pair: &mut Pair<B, M>) {
     share_many(rt, &mut pair.first);
     share_many(rt, &mut pair.second);
-    let listing = pair.first.session.list(rt).expect(rt, "a listing");
+    let listing = list(rt, &mut pair.first).expect(rt, "a listing");
     expect_rows(rt, &listing, 0, 2 * MANY as usize);
     expect_order(rt, listing.table.as_slice());
 }

@@ -2,6 +2,7 @@
 
 use super::answers::expect_granted;
 use super::desk::{DeskOf, Lending};
+use super::sessions::{take_tag, try_fast};
 use connections::{Connection, ManagerName};
 use lock_manager::{Asked, Board, Desk, Mode, OwnSession, Owner, Part, SessionPool, Tag};
 use std::alloc::Global;
@@ -37,21 +38,13 @@ fn take_and_leave<B: Board<Part>, M: ManagerName, R: Abort + Wait>(
         connection.session.id().number(),
     );
     let weak = Tag::relation(database, 16_384);
-    let answer = connection
-        .session
-        .try_fast(weak, Mode::AccessShare, Owner::Transaction);
+    let answer = try_fast(connection, weak, Mode::AccessShare, Owner::Transaction);
     expect_granted(rt, answer, weak, Mode::AccessShare);
-    let answer = connection
-        .session
-        .try_lock(rt, weak, Mode::AccessExclusive, Owner::Session);
-    expect_granted(rt, answer, weak, Mode::AccessExclusive);
+    take_tag(rt, connection, weak, Mode::AccessExclusive, Owner::Session);
     let level = connection.session.begin_nested().expect(rt, "a level");
     assert_eq!(rt; level, 2);
     let advisory = Tag::advisory(5, 0, 42, 1);
-    let answer = connection
-        .session
-        .try_lock(rt, advisory, Mode::Exclusive, Owner::Session);
-    expect_granted(rt, answer, advisory, Mode::Exclusive);
+    take_tag(rt, connection, advisory, Mode::Exclusive, Owner::Session);
 }
 
 /// Has a connection to `database` come and go, with a session of `lending`.

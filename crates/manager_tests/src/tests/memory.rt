@@ -1,8 +1,9 @@
 //! Want of memory is an answer, after which nothing is lost.
 
-use super::answers::{Answer, expect_answer, expect_granted, expect_released};
+use super::answers::{Answer, expect_answer, expect_granted};
 use super::desk::DeskOf;
 use super::pair::Pair;
+use super::sessions::{give_tag_back, list, try_lock};
 use connections::{Connection, ManagerName};
 use lock_manager::{
     Board, Desk, How, Listing, Mode, OwnSession, Owner, Part, Refusal, SessionId, SlotRow,
@@ -36,12 +37,12 @@ fn try_at_last<B: Board<Part>, M: ManagerName, R: Abort + Wait>(
     owner: Owner,
 ) -> Answer {
     let held = connection.session.held(tag).mask();
-    let answer = connection.session.try_lock(rt, tag, mode, owner);
+    let answer = try_lock(rt, connection, tag, mode, owner);
     if !is_out_of_memory(&answer) {
         return answer;
     }
     assert_eq!(rt; connection.session.held(tag).mask(), held);
-    connection.session.try_lock(rt, tag, mode, owner)
+    try_lock(rt, connection, tag, mode, owner)
 }
 
 /// Takes `tag` in `mode` for `owner` with `connection`, at the second attempt where there was no memory.
@@ -73,22 +74,11 @@ pub fn list_at_last<B: Board<Part>, M: ManagerName, R: Abort + Wait>(
     rt: &R,
     connection: &mut Connection<B, M>,
 ) -> Listing {
-    let mut listing = connection.session.list(rt);
+    let mut listing = list(rt, connection);
     if listing.is_err() {
-        listing = connection.session.list(rt);
+        listing = list(rt, connection);
     }
     listing.expect(rt, "one want of memory at most")
-}
-
-/// Gives `tag` in `mode` back with `connection`.
-fn give_back<B: Board<Part>, M: ManagerName, R: Abort + Wait>(
-    rt: &R,
-    connection: &mut Connection<B, M>,
-    tag: Tag,
-    mode: Mode,
-) {
-    let released = connection.session.unlock(rt, tag, mode, Owner::Session);
-    expect_released(rt, released, tag, mode);
 }
 
 /// Sees that all that `connection` took are held and listed, and gives each back.
@@ -100,7 +90,7 @@ fn give_many_back<B: Board<Part>, M: ManagerName, R: Abort + Wait>(
     assert_eq!(rt; rows, MANY as usize);
     for number in 0..MANY {
         let (tag, mode) = object(number);
-        give_back(rt, connection, tag, mode);
+        give_tag_back(rt, connection, tag, mode, Owner::Session);
     }
 }
 
@@ -176,16 +166,12 @@ fn try_strong_at_last<B: Board<Part>, M: ManagerName, R: Abort + Wait>(
     rt: &R,
     connection: &mut Connection<B, M>,
 ) -> Answer {
-    let answer = connection
-        .session
-        .try_lock(rt, TABLE, Mode::AccessExclusive, Owner::Session);
+    let answer = try_lock(rt, connection, TABLE, Mode::AccessExclusive, Owner::Session);
     if !is_out_of_memory(&answer) {
         return answer;
     }
     see_no_trace(rt, connection);
-    connection
-        .session
-        .try_lock(rt, TABLE, Mode::AccessExclusive, Owner::Session)
+    try_lock(rt, connection, TABLE, Mode::AccessExclusive, Owner::Session)
 }
 
 /// Asks for the strong mode with `connection`, which the weak ones of `other` are in the way of.
@@ -212,8 +198,8 @@ fn move_once<B: Board<Part>, M: ManagerName, R: Abort + Wait>(rt: &R, pair: &mut
     take_at_last(rt, first, TABLE, Mode::RowExclusive, Owner::Session);
     assert_eq!(rt; list_at_last(rt, first).fast.len(), 2);
     ask_for_strong(rt, second, first.session.id());
-    give_back(rt, first, TABLE, Mode::AccessShare);
-    give_back(rt, first, TABLE, Mode::RowExclusive);
+    give_tag_back(rt, first, TABLE, Mode::AccessShare, Owner::Session);
+    give_tag_back(rt, first, TABLE, Mode::RowExclusive, Owner::Session);
 }
 
 /// Takes further locks in the partition of the table with `connection`, others for each `transfer`.

@@ -2,6 +2,7 @@
 //! one release.
 
 use super::answers::expect_granted;
+use super::sessions::acquire;
 use super::side_by_side::{Play, play_side_by_side};
 use super::waits::{OWNER, TABLE, give_back, see_wait, take};
 use super::wakes::pause;
@@ -79,7 +80,7 @@ fn sleep_and_pass_on<B: Board<Part>, M: ManagerName, R: Abort + Wait>(
     connection: &mut Connection<B, M>,
 ) {
     see_turn(rt, tally, connection);
-    let answer = connection.session.acquire(rt, TABLE, tally.mode, OWNER);
+    let answer = acquire(rt, connection, TABLE, tally.mode, OWNER);
     expect_granted(rt, answer, TABLE, tally.mode);
     tally.wake(rt, connection.session.id());
     give_back(rt, connection, tally.mode);

@@ -4,6 +4,7 @@
 use super::answers::{Answer, expect_acted, expect_granted, expect_rows};
 use super::gates::{Gate, Wins};
 use super::pair::Pair;
+use super::sessions::{commit, list, try_fast};
 use super::tasks::{Task, act_side_by_side};
 use super::waits::{OWNER, TABLE, expect_gone, give_back, queue, take};
 use connections::{Connection, ManagerName, WaitingConnection};
@@ -98,8 +99,8 @@ fn try_weak_against_strong<
     let holder = pair.first.session.id();
     let (weak_one, strong_one) = (ended.of_first, ended.of_second);
     expect_one(rt, weak_one, strong_one, holder, weak, round.wins);
-    pair.second.session.commit(rt);
-    pair.first.session.commit(rt);
+    commit(rt, &mut pair.second);
+    commit(rt, &mut pair.first);
     try_beside_release(rt, pair, weak, strong, round);
 }
 
@@ -116,7 +117,7 @@ fn try_beside_release<
     if answer != Some(Ok(Acquired::Granted)) {
         expect_in_the_way(rt, answer, pair.first.session.id(), weak);
     }
-    pair.second.session.commit(rt);
+    commit(rt, &mut pair.second);
 }
 
 /// Takes the weak `mode` by a slot with `connection`.
@@ -125,7 +126,7 @@ fn take_fast<B: Board<Part>, M: ManagerName, R: Abort>(
     connection: &mut Connection<B, M>,
     mode: Mode,
 ) {
-    let answer = connection.session.try_fast(TABLE, mode, OWNER);
+    let answer = try_fast(connection, TABLE, mode, OWNER);
     expect_granted(rt, answer, TABLE, mode);
 }
 
@@ -278,7 +279,7 @@ pub fn see_nothing<B: Board<Part>, M: ManagerName, R: Abort + Wait>(
     rt: &R,
     connection: &mut Connection<B, M>,
 ) {
-    let listing = connection.session.list(rt).expect(rt, "a listing");
+    let listing = list(rt, connection).expect(rt, "a listing");
     expect_rows(rt, &listing, 0, 0);
     assert_eq!(rt; connection.session.strong_count(TABLE.strong_index()), 0);
 }

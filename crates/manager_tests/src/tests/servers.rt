@@ -4,6 +4,7 @@
 use super::audits::{close_counted, count, granted_in};
 use super::desk::{Beginning, DeskOf, append, open_many};
 use super::limits::list_all;
+use super::sessions::{commit, list};
 use super::waits::{TABLE, find_granted, find_still, give_back, queue, take};
 use connections::{Connection, ManagerName, WaitingConnection};
 use lock_manager::{Blocker, Board, Desk, MOST_SESSIONS, Mode, OwnSession, Part, QueueRow};
@@ -49,7 +50,7 @@ fn end_one<B: Board<Part>, M: ManagerName, R: Abort + Wait>(
     waiting: WaitingConnection<B, M>,
     is_last: bool,
 ) -> WaitingConnection<B, M> {
-    connection.session.commit(rt);
+    commit(rt, connection);
     if is_last {
         waiting
     } else {
@@ -138,7 +139,7 @@ fn let_go<B: Board<Part>, M: ManagerName, R: Abort + Wait>(
     let rows = connection.session.queue(rt, TABLE).expect(rt, "a queue");
     expect_in_order(rt, rows.as_slice());
     give_back(rt, connection, Mode::AccessExclusive);
-    let listing = connection.session.list(rt).expect(rt, "a listing");
+    let listing = list(rt, connection).expect(rt, "a listing");
     assert_eq!(rt; granted_in(listing.table.as_slice()), u64::from(LET_GO));
     let left = connection.session.queue(rt, TABLE).expect(rt, "a queue");
     assert_eq!(rt; left.len(), 1);
@@ -153,7 +154,7 @@ fn end_queue<B: Board<Part>, M: ManagerName, R: Abort + Wait>(
 ) {
     'waits: while let Some(waiting) = waits.pop() {
         let mut connection = find_granted(rt, waiting);
-        connection.session.commit(rt);
+        commit(rt, &mut connection);
         append(rt, connections, connection);
     }
     waits.destroy_empty();

@@ -4,6 +4,7 @@ use super::answers::Answer;
 use super::busy::{take_until_seen, try_until_busy};
 use super::gates::Gate;
 use super::pair::Pair;
+use super::sessions::{acquire, commit, try_fast, try_lock};
 use super::waits::{OWNER, TABLE, ask, ask_until_heard, give_back, see_wait};
 use connections::{Connection, ManagerName};
 use lock_manager::{Asked, Board, Mode, Part, SessionId};
@@ -113,13 +114,13 @@ fn do_task<B: Board<Part>, M: ManagerName, R: Abort + Wait>(
     task: Task,
 ) -> Option<Answer> {
     match task {
-        Task::TryFast(mode) => Some(connection.session.try_fast(TABLE, mode, OWNER)),
-        Task::Try(mode) => Some(connection.session.try_lock(rt, TABLE, mode, OWNER)),
+        Task::TryFast(mode) => Some(try_fast(connection, TABLE, mode, OWNER)),
+        Task::Try(mode) => Some(try_lock(rt, connection, TABLE, mode, OWNER)),
         Task::Commit => {
-            connection.session.commit(rt);
+            commit(rt, connection);
             None
         }
-        Task::Lock(mode) => Some(connection.session.acquire(rt, TABLE, mode, OWNER)),
+        Task::Lock(mode) => Some(acquire(rt, connection, TABLE, mode, OWNER)),
         Task::AskUntilHeard(number) => {
             ask_until_heard(rt, connection, number);
             None

@@ -3,8 +3,9 @@
 
 ghost use Rattle.std.specs.Prelude.{◌<◌, ◌≤◌};
 
-use super::answers::{expect_granted, expect_released};
+use super::answers::expect_granted;
 use super::conflicts::conflicts;
+use super::sessions::{give_tag_back, try_lock};
 use super::side_by_side::{Play, play_side_by_side};
 use connections::{Connection, ManagerName};
 use lock_manager::{Board, How, Mode, Owner, Part, Refusal, SessionId, Tag};
@@ -128,9 +129,7 @@ fn ask<B: Board<Part>, M: ManagerName, R: Abort + Wait>(
     let object = round % plan.objects;
     let tag = plan.tag(object);
     let mode = Mode::ALL[place];
-    let answer = connection
-        .session
-        .try_lock(rt, tag, mode, Owner::Transaction);
+    let answer = try_lock(rt, connection, tag, mode, Owner::Transaction);
     if let Err(refusal) = answer {
         expect_conflict(rt, refusal, connection.session.id(), place);
         return;
@@ -139,8 +138,7 @@ fn ask<B: Board<Part>, M: ManagerName, R: Abort + Wait>(
     enter(rt, holders, object as usize, place);
     thread::yield_now();
     take_out(rt, holders, object as usize, place);
-    let released = connection.session.unlock(rt, tag, mode, Owner::Transaction);
-    expect_released(rt, released, tag, mode);
+    give_tag_back(rt, connection, tag, mode, Owner::Transaction);
 }
 
 impl Play for Asks {

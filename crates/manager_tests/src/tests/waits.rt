@@ -1,6 +1,7 @@
 //! Sessions that wait for one table: how a wait begins, is looked at, asked to cancel and seen by others.
 
-use super::answers::{expect_answer, expect_granted, expect_released};
+use super::answers::expect_answer;
+use super::sessions::{give_tag_back, list, take_tag};
 use connections::{Connection, ManagerName, WaitingConnection};
 use lock_manager::{
     Asked, Board, Mode, Owner, Part, Polled, Refusal, SessionId, Started, TableRow, Tag,
@@ -22,8 +23,7 @@ pub fn take<B: Board<Part>, M: ManagerName, R: Abort + Wait>(
     connection: &mut Connection<B, M>,
     mode: Mode,
 ) {
-    let answer = connection.session.try_lock(rt, TABLE, mode, OWNER);
-    expect_granted(rt, answer, TABLE, mode);
+    take_tag(rt, connection, TABLE, mode, OWNER);
 }
 
 /// Gives `mode` on the table back with `connection`.
@@ -32,8 +32,7 @@ pub fn give_back<B: Board<Part>, M: ManagerName, R: Abort + Wait>(
     connection: &mut Connection<B, M>,
     mode: Mode,
 ) {
-    let answer = connection.session.unlock(rt, TABLE, mode, OWNER);
-    expect_released(rt, answer, TABLE, mode);
+    give_tag_back(rt, connection, TABLE, mode, OWNER);
 }
 
 /// Begins to wait with `connection` for `mode` on the table.
@@ -134,7 +133,7 @@ fn shows_wait<B: Board<Part>, M: ManagerName, R: Wait>(
     connection: &mut Connection<B, M>,
     number: SessionId,
 ) -> bool {
-    match connection.session.list(rt) {
+    match list(rt, connection) {
         Ok(listing) => is_awaited(listing.table.as_slice(), number),
         Err(_) => false,
     }

@@ -3,6 +3,7 @@
 
 use super::answers::{Answer, expect_acted, expect_answer, expect_seen};
 use super::pair::Pair;
+use super::sessions::commit;
 use super::tasks::{Task, act_side_by_side};
 use super::waits::{OWNER, TABLE, ask, find_granted, find_still, give_back, leave, queue, take};
 use connections::{Connection, ManagerName, WaitingConnection};
@@ -165,6 +166,6 @@ pub fn sleep_in_a_thread<
     take(rt, &mut pair.first, Mode::AccessExclusive);
     let ended = act_side_by_side(rt, pair, task, Task::Lock(Mode::AccessShare), 0);
     expect_acted(rt, ended.of_second, expected);
-    pair.second.session.commit(rt);
-    pair.first.session.commit(rt);
+    commit(rt, &mut pair.second);
+    commit(rt, &mut pair.first);
 }

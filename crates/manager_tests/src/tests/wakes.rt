@@ -3,6 +3,7 @@
 use super::answers::{Answer, expect_answer};
 use super::audits::close_counted;
 use super::desk::{DeskOf, append};
+use super::sessions::acquire;
 use super::waits::{OWNER, TABLE, ask, expect_gone, give_back, leave, queue, see_wait, take};
 use connections::{Connection, ManagerName, WaitingConnection};
 use lock_manager::{Acquired, Asked, Board, Desk, Mode, OwnSession, Part, Refusal, SessionId};
@@ -39,9 +40,7 @@ fn sleep_until<B: Board<Part>, M: ManagerName, R: Abort + Wait>(
     connection: &mut Connection<B, M>,
     expected: Answer,
 ) {
-    let answer = connection
-        .session
-        .acquire(rt, TABLE, Mode::AccessShare, OWNER);
+    let answer = acquire(rt, connection, TABLE, Mode::AccessShare, OWNER);
     expect_answer(rt, answer, expected);
 }
 

@@ -4,7 +4,8 @@
 
 ghost use Rattle.std.specs.Prelude.{◌<◌};
 
-use super::answers::{expect_granted, expect_released};
+use super::answers::expect_granted;
+use super::sessions::{acquire, give_tag_back, list, try_lock};
 use super::side_by_side::{Play, play_side_by_side};
 use connections::{Connection, ManagerName};
 use lock_manager::{Board, Listing, Mode, Owner, Part, SessionId, Tag};
@@ -87,13 +88,8 @@ fn disturb<B: Board<Part>, M: ManagerName, R: Abort + Wait>(
 {
     let tag = relation(next);
     let mode = Mode::AccessExclusive;
-    if connection
-        .session
-        .try_lock(rt, tag, mode, Owner::Transaction)
-        .is_ok()
-    {
-        let released = connection.session.unlock(rt, tag, mode, Owner::Transaction);
-        expect_released(rt, released, tag, mode);
+    if try_lock(rt, connection, tag, mode, Owner::Transaction).is_ok() {
+        give_tag_back(rt, connection, tag, mode, Owner::Transaction);
     }
 }
 
@@ -121,16 +117,11 @@ fn hold_once<B: Board<Part>, M: ManagerName, R: Abort + Wait>(
     let tag = relation(place);
     let mode = Mode::AccessShare;
     words.may_hold[place].fetch_add(1, Ordering::SeqCst);
-    if connection
-        .session
-        .try_lock(rt, tag, mode, Owner::Transaction)
-        .is_ok()
-    {
+    if try_lock(rt, connection, tag, mode, Owner::Transaction).is_ok() {
         words.holds[place].fetch_add(1, Ordering::SeqCst);
         disturb_often(rt, connection, (place + 1) % 4);
         words.holds[place].fetch_add(1, Ordering::SeqCst);
-        let released = connection.session.unlock(rt, tag, mode, Owner::Transaction);
-        expect_released(rt, released, tag, mode);
+        give_tag_back(rt, connection, tag, mode, Owner::Transaction);
     }
     words.may_hold[place].fetch_add(1, Ordering::SeqCst);
 }
@@ -188,7 +179,7 @@ fn list_once<B: Board<Part>, M: ManagerName, R: Abort + Wait>(
 ) {
     let may_hold = look(&words.may_hold);
     let holds = look(&words.holds);
-    let listing = connection.session.list(rt).expect(rt, "a listing");
+    let listing = list(rt, connection).expect(rt, "a listing");
     let held = look(&words.holds);
     let might_hold = look(&words.may_hold);
     for place in 1..4usize {
@@ -240,11 +231,10 @@ impl Play for Words {
         }
         let tag = relation(0);
         let mode = Mode::AccessShare;
-        let answer = connection.session.acquire(rt, tag, mode, Owner::Session);
+        let answer = acquire(rt, connection, tag, mode, Owner::Session);
         expect_granted(rt, answer, tag, mode);
         list_often(rt, self, connection);
-        let released = connection.session.unlock(rt, tag, mode, Owner::Session);
-        expect_released(rt, released, tag, mode);
+        give_tag_back(rt, connection, tag, mode, Owner::Session);
     }
 }
 
