@@ -30,6 +30,19 @@ struct Ring {
     waiter: SessionId,
 }
 
+impl Ring {
+    /// What the threads have together for `rounds` rounds, none of which is played yet.
+    fn of<R: Abort>(rt: &R, rounds: u32) -> Ring {
+        Ring {
+            rounds,
+            all: Gate::new(),
+            two: Gate::new(),
+            wins: Wins::none(),
+            waiter: SessionId::new(1).expect(rt, "a session number"),
+        }
+    }
+}
+
 /// Ends the test where `answer`, to the session that waits, doesn't fit `count`, how often it has the mode,
 /// and notes in `wins` which side won.
 fn expect_fit<R: Abort>(rt: &R, wins: &Wins, answer: Answer, count: u16) {
@@ -140,13 +153,7 @@ pub fn race_three<
     M: ManagerName + Send,
     R: Abort + Clock + Threads + Wait + Sync + Print,
 >(rt: &R, connections: &mut [Connection<B, M>], rounds: u32) {
-    let ring = Ring {
-        rounds,
-        all: Gate::new(),
-        two: Gate::new(),
-        wins: Wins::none(),
-        waiter: SessionId::new(1).expect(rt, "a session number"),
-    };
+    let ring = Ring::of(rt, rounds);
     play_side_by_side(rt, &ring, connections);
     ring.wins
         .expect_both(rt, "a release against a request to cancel");

@@ -1,7 +1,7 @@
 //! Connections that come and go in one thread, each with the number that the one before it had, while another
 //! thread lists, and a third one takes strong modes on what they hold: under a watchdog.
 
-use super::answers::Answer;
+use super::answers::{Answer, expect_asked};
 use super::crowds::{Watch, guard};
 use super::desk::{DeskOf, Lending};
 use super::gates::Wins;
@@ -94,13 +94,6 @@ fn are_of_those(listing: &Listing, first: u32, last: u32) -> bool {
     are
 }
 
-/// Ends the test unless a cancel for a life that was over, and then one for the life that goes on, were
-/// answered `over` and `now`.
-fn expect_asked<R: Abort>(rt: &R, over: Asked, now: Asked) {
-    assert!(rt; over == Asked::NotWaiting);
-    assert!(rt; now == Asked::Waiting);
-}
-
 /// Ends the test unless `refusal`, of a strong mode, names what a connection held.
 fn expect_held<R: Abort>(rt: &R, refusal: Refusal) {
     let Refusal::Conflict { session, mode, how } = refusal else {
@@ -139,7 +132,8 @@ fn wait_and_be_asked<B: Board<Part>, M: ManagerName, R: Abort + Wait>(
     let asked_before = lending.pool.ask_cancel(&mut asker.session, last);
     let waiting = find_still(rt, waiting, false);
     let asked = lending.pool.ask_cancel(&mut asker.session, now);
-    expect_asked(rt, asked_before, asked);
+    expect_asked(rt, asked_before, Asked::NotWaiting);
+    expect_asked(rt, asked, Asked::Waiting);
     leave(rt, find_still(rt, waiting, true))
 }
 

@@ -138,8 +138,8 @@ fn try_strong_over_weak<
 >(rt: &R, pair: &mut Pair<B, M>, weak: Mode, strong: Mode, round: &Round<'_>) {
     take_fast(rt, &mut pair.first, weak);
     take_fast(rt, &mut pair.second, weak);
-    let tries = Task::Try(strong);
-    let ended = act_side_by_side(rt, pair, tries, tries, round.number);
+    let (one, other) = (Task::Try(strong), Task::Try(strong));
+    let ended = act_side_by_side(rt, pair, one, other, round.number);
     expect_in_the_way(rt, ended.of_first, pair.second.session.id(), weak);
     expect_in_the_way(rt, ended.of_second, pair.first.session.id(), weak);
     round.wins.count(ended.is_first_ahead);

@@ -218,7 +218,7 @@ fn race_two<B: Board<Part> + Send, M: ManagerName + Send, R: Abort + Threads + W
     append(rt, connections, first);
 }
 
-/// Has `sessions`, of the manager that `M` names, do what `paused` says.
+/// Has `sessions`, of the manager that `M` names, whose opener is `_opener`, do what `paused` says.
 fn play_at<
     B: Board<Part> + Send,
     M: ManagerName + Send,
@@ -226,6 +226,7 @@ fn play_at<
 >(
     rt: &R,
     alloc: Global,
+    _opener: &SeatOpener<Part>,
     sessions: Vec<OwnSession<Part, B>>,
     paused: Paused,
 ) -> Vec<OwnSession<Part, B>>
@@ -255,7 +256,7 @@ fn play_over<B: Board<Part> + Send, R: Abort + Clock + Threads + Wait + Sync + P
     requires own { All (λ session. (B.seat session.board).table ≡ opener.now.table) sessions.items }
     ensures own { All (λ session. (B.seat session.board).table ≡ opener.now.table) result.items }
 {
-    play_at::<B, Brand, R>(rt, alloc, sessions, paused)
+    play_at::<B, Brand, R>(rt, alloc, opener, sessions, paused)
 }
 
 /// Has sessions do what `paused` says at a table of their own, on boards that pause.

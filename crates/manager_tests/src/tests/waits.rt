@@ -1,6 +1,6 @@
 //! Sessions that wait for one table: how a wait begins, is looked at, asked to cancel and seen by others.
 
-use super::answers::expect_answer;
+use super::answers::{expect_answer, expect_asked};
 use super::sessions::{give_tag_back, list, take_tag};
 use connections::{Connection, ManagerName, WaitingConnection};
 use lock_manager::{
@@ -82,7 +82,8 @@ pub fn ask<B: Board<Part>, M: ManagerName, R: Abort>(
     number: SessionId,
     asked: Asked,
 ) {
-    assert!(rt; connection.session.ask_cancel(number) == asked);
+    let answer = connection.session.ask_cancel(number);
+    expect_asked(rt, answer, asked);
 }
 
 /// Whether the session numbered `number` waits, which `connection` asks to cancel then.
