@@ -9,7 +9,8 @@ use std::marker::PhantomData;
 
 /// A session of the manager that `M` names, which a connection has from its `Pool`. The calls are those of
 /// `session`. A function that borrows, takes or lends a connection has nothing to say of whose session it is:
-/// the type says it. The compiler refuses code that lets a connection go other than back to its pool.
+/// the type says it. The compiler refuses code that lets a connection go: it goes back to its pool, or is
+/// given up for its session.
 pub struct Connection<B: Board<Part>, M: ManagerName> {
     pub session: OwnSession<Part, B>,
     life: u64,

@@ -23,8 +23,8 @@ fn expect_life<R: Abort>(rt: &R, lent: SessionLife, number: u32, life: u32) {
     assert_eq!(rt; lent.life, u64::from(life));
 }
 
-/// Has `lending` lend a session of `desk`, which is the one numbered `number`, in the life numbered `life`. It
-/// takes an object of its own.
+/// Has `lending` lend a session of `desk`, which is the one numbered `number`, in the life numbered `life`.
+/// It takes an object of its own.
 fn lend_one<B: Board<Part>, D: Desk<OwnSession<Part, B>>, M: ManagerName, R: Abort + Wait>(
     rt: &R,
     desk: &mut DeskOf<B, D, M>,

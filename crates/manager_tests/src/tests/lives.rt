@@ -59,8 +59,8 @@ fn live_once<B: Board<Part>, D: Desk<OwnSession<Part, B>>, M: ManagerName, R: Ab
     lending.close(rt, desk, connection);
 }
 
-/// Has a connection of `lending` at `desk` end, and the next one, which has the same number, ask for a cancel of
-/// the first one's wait: that is answered as where nobody waits.
+/// Has a connection of `lending` at `desk` end, and the next one, which has the same number, ask for a cancel
+/// of the first one's wait: that is answered as where nobody waits.
 fn ask_the_last_one<B: Board<Part>, D: Desk<OwnSession<Part, B>>, M: ManagerName, R: Abort + Wait>(
     rt: &R,
     desk: &mut DeskOf<B, D, M>,
