@@ -9,7 +9,8 @@ use std::marker::PhantomData;
 
 /// A session of the manager that `M` names, which a connection has from its `Pool`. The calls are those of
 /// `session`. A function that borrows, takes or lends a connection has nothing to say of whose session it is:
-/// the type says it. The compiler refuses code that lets a connection go other than back to its pool.
+/// the type says it. The compiler refuses code that lets a connection go: it goes back to its pool, or is
+/// given up for its session.
 pub struct Connection<B: Board<Part>, M: ManagerName> {
     pub session: OwnSession<Part, B>,
     life: u64,
@@ -18,8 +19,9 @@ pub struct Connection<B: Board<Part>, M: ManagerName> {
 }
 
 impl<B: Board<Part>, M: ManagerName> Connection<B, M> {
-    /// A connection that has `session`, of the manager that `M` names, in its life `life`.
-    pub(crate) fn new(session: OwnSession<Part, B>, life: u64) -> Self
+    /// A connection that has `session`, of the manager that `M` names, in its life `life`: for a pool, and
+    /// for a program that opens its sessions itself.
+    pub fn new(session: OwnSession<Part, B>, life: u64) -> Self
         requires own { IsOf B.seat M.manager session }
         ensures session { result.session ≡ session }
         ensures life { result.life ≡ life }
@@ -31,8 +33,8 @@ impl<B: Board<Part>, M: ManagerName> Connection<B, M> {
         }
     }
 
-    /// The session of the connection, for which the connection is given up.
-    pub(crate) fn into_session(self) -> OwnSession<Part, B>
+    /// The session of the connection, for which the connection is given up. It is closed at its desk.
+    pub fn into_session(self) -> OwnSession<Part, B>
         ensures own { IsOf B.seat M.manager result }
         ensures session { result ≡ self.session }
     {

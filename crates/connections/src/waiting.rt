@@ -25,7 +25,7 @@ use std::sync::Wait;
 /// A session that waits, of the manager that `M` names, with the life that its connection has. It is given up
 /// only to one of these calls.
 pub struct WaitingConnection<B: Board<Part>, M: ManagerName> {
-    waiting: OwnWaiting<Part, B>,
+    pub waiting: OwnWaiting<Part, B>,
     life: u64,
     of: PhantomData<M>,
     ghost is: { (B.seat waiting.board).table ≡ M.manager.table },

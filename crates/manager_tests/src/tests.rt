@@ -1,8 +1,9 @@
 //! Each test makes a manager, runs a case at its desk, and finishes it.
 
-ghost use Rattle.std.specs.Prelude.{◌≡◌, IfOk};
+ghost use Rattle.std.specs.Prelude.{◌≡◌, IfOk, IsSome, IsSomeAnd};
 ghost use Rattle.lock_manager.specs.Managers.{IsNew};
-ghost use Rattle.lock_manager.specs.Crews.{SeatsAre};
+ghost use Rattle.connections.specs.Managers.{manager_in};
+ghost use Rattle.connections.specs.Shown.{ShowsSessions};
 
 mod answers;
 mod asked;
@@ -28,6 +29,7 @@ mod pair;
 mod queues;
 mod races;
 mod servers;
+mod sessions;
 mod side_by_side;
 mod tasks;
 mod threads;
@@ -39,22 +41,25 @@ mod watched;
 mod watches;
 
 use cases::{Case, perform};
+use connections::ManagerName;
 use crews::Crew;
+use desk::DeskOf;
 use limits::Limits;
 use lock_manager::{
-    Config, Desk, Final, MOST_SESSIONS, Manager, ManagerDesk, Mode, Opener, OwnSession, Part,
-    Refusal, USUAL_SESSIONS,
+    Board, Config, Desk, Final, MOST_SESSIONS, Manager, ManagerDesk, Mode, Opener, OwnSession,
+    Part, Refusal, USUAL_SESSIONS,
 };
 use pair::Pair;
 use races::Race;
-use shared_rule::Board;
 use std::alloc::Global;
+use std::marker::Brand;
 use std::process::Abort;
 use std::sync::Wait;
 use std::test::Fail;
 use std::thread::Threads;
 use std::time::Clock;
 use threads::Plan;
+use unsteady::Paused;
 
 /// What the sessions of a manager do.
 #[derive(Clone, Copy)]
@@ -90,12 +95,9 @@ enum DeskCase {
 fn tell<
     B: Board<Part> + Send,
     D: Desk<OwnSession<Part, B>> + Send,
+    M: ManagerName + Send,
     R: Abort + Clock + Threads + Wait + Sync + Print,
->(rt: &R, alloc: Global, desk: &mut D, desk_case: DeskCase)
-    requires seats { SeatsAre B.seat D.seat }
-    ensures manager { D.manager desk.new ≡ D.manager desk.old }
-    ensures live { D.live desk.new ≡ D.live desk.old }
-{
+>(rt: &R, alloc: Global, desk: &mut DeskOf<B, D, M>, desk_case: DeskCase) {
     match desk_case {
         DeskCase::OfTwo(case) => {
             let pair = Pair::open(rt, desk);
@@ -139,17 +141,35 @@ fn make_at_last(alloc: Global, config: Config) -> Result<(Manager, Opener), Refu
     }
 }
 
-/// Runs `desk_case` at `desk`, the desk of a manager.
-fn tell_at<R: Abort + Clock + Threads + Wait + Sync + Print>(
-    rt: &R,
-    alloc: Global,
-    desk: &mut ManagerDesk<'_>,
-    desk_case: DeskCase,
-)
-    ensures manager { desk.new.manager.now ≡ desk.old.manager.now }
-    ensures live { desk.new.opener.live ≡ desk.old.opener.live }
+/// Runs `desk_case` at the desk in `slot`, of the manager that `M` names.
+fn tell_at<
+    B: Board<Part> + Send,
+    D: Desk<OwnSession<Part, B>> + Send + Drop,
+    M: ManagerName + Send,
+    R: Abort + Clock + Threads + Wait + Sync + Print,
+>(rt: &R, alloc: Global, slot: &mut Option<D>, desk_case: DeskCase)
+    requires shows { ShowsSessions B.seat D.seat D.entries D.database_of }
+    requires is { IsSomeAnd slot.old (λ desk. D.manager desk ≡ M.manager) }
+    ensures is { IsSomeAnd slot.new (λ desk. D.manager desk ≡ M.manager) }
 {
-    tell(rt, alloc, desk, desk_case);
+    let mut desk = DeskOf::<B, D, M>::new(slot);
+    tell(rt, alloc, &mut desk, desk_case);
+    let DeskOf { desk, of: _ } = desk;
+    *slot = Some(desk);
+}
+
+/// Runs `desk_case` at the desk in `slot`. This function picks the manager that the types of connections
+/// name.
+fn tell_over<
+    B: Board<Part> + Send,
+    D: Desk<OwnSession<Part, B>> + Send + Drop,
+    R: Abort + Clock + Threads + Wait + Sync + Print,
+>(rt: &R, alloc: Global, slot: &mut Option<D>, desk_case: DeskCase)
+    requires shows { ShowsSessions B.seat D.seat D.entries D.database_of }
+    requires there { IsSome slot.old }
+    ensures is { IsSomeAnd slot.new (λ desk. D.manager desk ≡ manager_in D.manager slot.old) }
+{
+    tell_at::<B, D, Brand, R>(rt, alloc, slot, desk_case);
 }
 
 /// Runs `desk_case` with a manager of `config` of its own, from the opening of the manager to its end.
@@ -160,9 +180,11 @@ fn run<R: Abort + Clock + Threads + Wait + Sync + Print>(
     desk_case: DeskCase,
 ) -> Result<(), Fail> {
     let (manager, opener) = make_at_last(alloc, config)?;
-    let mut desk = ManagerDesk::new(&manager, opener);
-    tell_at(rt, alloc, &mut desk, desk_case);
+    let mut slot = Some(ManagerDesk::new(&manager, opener));
+    tell_over(rt, alloc, &mut slot, desk_case);
+    let Some(desk) = slot else { unreachable!() };
     let opener = desk.into_opener();
+    assert_eq!(rt; opener.live(), 0);
     expect_nothing(rt, manager.finish(opener));
     Ok(())
 }
@@ -232,7 +254,7 @@ fn races_end_so_where_threads_pause_between_steps(rt: HostRuntime) -> Result<(),
         Race::CancelAgainstRelease(Mode::AccessExclusive, Mode::AccessShare),
         Race::AskAgainstSleep,
     ] {
-        unsteady::race_with_pauses(&rt, rt.alloc(), race, 1_000)?;
+        unsteady::play_with_pauses(&rt, rt.alloc(), Paused::Race(race, 1_000))?;
     }
     Ok(())
 }
@@ -240,7 +262,7 @@ fn races_end_so_where_threads_pause_between_steps(rt: HostRuntime) -> Result<(),
 #[test]
 fn many_sessions_do_so_where_threads_pause_between_steps(rt: HostRuntime) -> Result<(), Fail> {
     for crew in [Crew::Asked(1_000), Crew::Watch, Crew::Crowd(crowds::USUAL)] {
-        unsteady::act_with_pauses(&rt, rt.alloc(), crew)?;
+        unsteady::play_with_pauses(&rt, rt.alloc(), Paused::Crew(crew))?;
     }
     Ok(())
 }

@@ -1,7 +1,7 @@
 //! What calls are answered, beside what they are to be. These functions have no session: where one lives a
 //! comparison is dearer to prove.
 
-use lock_manager::{Acquired, Listing, Mode, Refusal, Tag, Unlocked};
+use lock_manager::{Acquired, Asked, Listing, Mode, Refusal, Tag, Unlocked};
 use std::process::Abort;
 
 /// What a request for a mode is answered.
@@ -26,6 +26,11 @@ pub fn expect_seen<R: Abort>(
     answer: Result<bool, Refusal>,
     expected: Result<bool, Refusal>,
 ) {
+    assert!(rt; answer == expected);
+}
+
+/// Ends the test where a request to cancel wasn't answered `expected`.
+pub fn expect_asked<R: Abort>(rt: &R, answer: Asked, expected: Asked) {
     assert!(rt; answer == expected);
 }
 

@@ -1,16 +1,13 @@
 //! A session waits in its thread for what another one has, which gives it back while a third one asks it to
 //! cancel.
 
-ghost use Rattle.std.specs.Prelude.{◌≡◌};
-ghost use Rattle.lock_manager.specs.Crews.{KeepManagers};
-
 use super::answers::Answer;
 use super::gates::{Gate, Wins};
+use super::sessions::{acquire, commit};
 use super::side_by_side::{Play, play_side_by_side};
 use super::waits::{OWNER, TABLE, give_back, see_wait, take};
-use lock_manager::{Acquired, Mode, OwnSession, Part, Refusal, SessionId};
-use lock_table::PartTable;
-use shared_rule::Board;
+use connections::{Connection, ManagerName};
+use lock_manager::{Acquired, Board, Mode, Part, Refusal, SessionId};
 use std::process::Abort;
 use std::sync::Wait;
 use std::thread::Threads;
@@ -33,6 +30,19 @@ struct Ring {
     waiter: SessionId,
 }
 
+impl Ring {
+    /// What the threads have together for `rounds` rounds, none of which is played yet.
+    fn of<R: Abort>(rt: &R, rounds: u32) -> Ring {
+        Ring {
+            rounds,
+            all: Gate::new(),
+            two: Gate::new(),
+            wins: Wins::none(),
+            waiter: SessionId::new(1).expect(rt, "a session number"),
+        }
+    }
+}
+
 /// Ends the test where `answer`, to the session that waits, doesn't fit `count`, how often it has the mode,
 /// and notes in `wins` which side won.
 fn expect_fit<R: Abort>(rt: &R, wins: &Wins, answer: Answer, count: u16) {
@@ -44,125 +54,107 @@ fn expect_fit<R: Abort>(rt: &R, wins: &Wins, answer: Answer, count: u16) {
     assert_eq!(rt; count, u16::from(answer.is_ok()));
 }
 
-/// Has `session` sleep until it is granted or asked to cancel, and notes in `ring` which of the two came.
-fn wait_or_leave<T: PartTable, B: Board<T>, R: Abort + Wait>(
+/// Has `connection` sleep until it is granted or asked to cancel, and notes in `ring` which of the two came.
+fn wait_or_leave<B: Board<Part>, M: ManagerName, R: Abort + Wait>(
     rt: &R,
     ring: &Ring,
-    session: &mut OwnSession<T, B>,
-)
-    ensures seat { B.seat session.new.board ≡ B.seat session.old.board }
-{
-    let answer = session.acquire(rt, TABLE, Mode::AccessShare, OWNER);
-    let count = session.owner_count(TABLE, Mode::AccessShare, OWNER);
+    connection: &mut Connection<B, M>,
+) {
+    let answer = acquire(rt, connection, TABLE, Mode::AccessShare, OWNER);
+    let count = connection
+        .session
+        .owner_count(TABLE, Mode::AccessShare, OWNER);
     expect_fit(rt, &ring.wins, answer, count);
-    session.commit(rt);
+    commit(rt, connection);
 }
 
 /// Plays the holder, which gives back in round `round`.
-fn release<T: PartTable, B: Board<T>, R: Abort + Wait>(
+fn release<B: Board<Part>, M: ManagerName, R: Abort + Wait>(
     rt: &R,
     ring: &Ring,
-    session: &mut OwnSession<T, B>,
+    connection: &mut Connection<B, M>,
     round: u32,
-)
-    ensures seat { B.seat session.new.board ≡ B.seat session.old.board }
-{
-    see_wait(rt, session, ring.waiter);
+) {
+    see_wait(rt, connection, ring.waiter);
     ring.two.pass(rt, round, 0);
-    give_back(rt, session, Mode::AccessExclusive);
+    give_back(rt, connection, Mode::AccessExclusive);
 }
 
 /// Plays the third session, which asks to cancel in round `round`.
-fn ask<T: PartTable, B: Board<T>, R: Wait>(
+fn ask<B: Board<Part>, M: ManagerName, R: Wait>(
     rt: &R,
     ring: &Ring,
-    session: &mut OwnSession<T, B>,
+    connection: &mut Connection<B, M>,
     round: u32,
-)
-    ensures seat { B.seat session.new.board ≡ B.seat session.old.board }
-{
-    see_wait(rt, session, ring.waiter);
+) {
+    see_wait(rt, connection, ring.waiter);
     ring.two.pass(rt, round, 1);
-    session.ask_cancel(ring.waiter);
+    connection.session.ask_cancel(ring.waiter);
 }
 
-/// Takes with `session`, where `number` says that it is the holder, the mode that is to be in the way of the
-/// session that waits.
-fn prepare<T: PartTable, B: Board<T>, R: Abort + Wait>(
+/// Takes with `connection`, where `number` says that it is the holder, the mode that is to be in the way of
+/// the session that waits.
+fn prepare<B: Board<Part>, M: ManagerName, R: Abort + Wait>(
     rt: &R,
-    session: &mut OwnSession<T, B>,
+    connection: &mut Connection<B, M>,
     number: u16,
-)
-    ensures seat { B.seat session.new.board ≡ B.seat session.old.board }
-{
+) {
     if number == 0 {
-        take(rt, session, Mode::AccessExclusive);
+        take(rt, connection, Mode::AccessExclusive);
     }
 }
 
 /// Does what the session numbered `number` does in round `round`.
-fn act<T: PartTable, B: Board<T>, R: Abort + Wait>(
+fn act<B: Board<Part>, M: ManagerName, R: Abort + Wait>(
     rt: &R,
     ring: &Ring,
-    session: &mut OwnSession<T, B>,
+    connection: &mut Connection<B, M>,
     number: u16,
     round: u32,
-)
-    ensures seat { B.seat session.new.board ≡ B.seat session.old.board }
-{
+) {
     match number {
-        0 => release(rt, ring, session, round),
-        1 => wait_or_leave(rt, ring, session),
-        _ => ask(rt, ring, session, round),
+        0 => release(rt, ring, connection, round),
+        1 => wait_or_leave(rt, ring, connection),
+        _ => ask(rt, ring, connection, round),
     }
 }
 
 /// Plays round `round` of the session numbered `number`.
-fn play_round<T: PartTable, B: Board<T>, R: Abort + Wait>(
+fn play_round<B: Board<Part>, M: ManagerName, R: Abort + Wait>(
     rt: &R,
     ring: &Ring,
-    session: &mut OwnSession<T, B>,
+    connection: &mut Connection<B, M>,
     number: u16,
     round: u32,
-)
-    ensures seat { B.seat session.new.board ≡ B.seat session.old.board }
-{
-    prepare(rt, session, number);
+) {
+    prepare(rt, connection, number);
     ring.all.come(rt, 3);
-    act(rt, ring, session, number, round);
+    act(rt, ring, connection, number, round);
     ring.all.come(rt, 3);
 }
 
 impl Play for Ring {
-    /// Plays all rounds of `session`.
-    fn play<T: PartTable, B: Board<T>, R: Abort + Clock + Wait>(
+    /// Plays all rounds of `connection`.
+    fn play<B: Board<Part>, M: ManagerName, R: Abort + Clock + Wait>(
         &self,
         rt: &R,
-        session: &mut OwnSession<T, B>,
+        connection: &mut Connection<B, M>,
     ) {
-        let number = session.id().number();
-        'rounds: for round in 0..self.rounds {
-            play_round(rt, self, session, number, round);
+        let number = connection.session.id().number();
+        for round in 0..self.rounds {
+            play_round(rt, self, connection, number, round);
         }
     }
 }
 
-/// Has the three `sessions` race for `rounds` rounds. Both ends of the wait come about.
-pub fn race_three<B: Board<Part> + Send, R: Abort + Clock + Threads + Wait + Sync + Print>(
-    rt: &R,
-    sessions: &mut [OwnSession<Part, B>],
-    rounds: u32,
-)
-    ensures own { KeepManagers B.seat sessions.old sessions.new }
-{
-    let ring = Ring {
-        rounds,
-        all: Gate::new(),
-        two: Gate::new(),
-        wins: Wins::none(),
-        waiter: SessionId::new(1).expect(rt, "a session number"),
-    };
-    play_side_by_side(rt, &ring, sessions);
+/// Has the three `connections` race for `rounds` rounds. Both ends of the wait come about.
+pub fn race_three<
+    B: Board<Part> + Send,
+    M: ManagerName + Send,
+    R: Abort + Clock + Threads + Wait + Sync + Print,
+>(rt: &R, connections: &mut [Connection<B, M>], rounds: u32) {
+    let ring = Ring::of(rt, rounds);
+    play_side_by_side(rt, &ring, connections);
     ring.wins
         .expect_both(rt, "a release against a request to cancel");
 }

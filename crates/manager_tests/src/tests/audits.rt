@@ -1,21 +1,18 @@
 //! Audits, with all open sessions lent, beside numbers that were counted by hand, and beside what one of the
 //! sessions sees.
 
-ghost use Rattle.std.specs.Prelude.{◌≡◌, ◌+◌, ◌-◌, length};
-ghost use Rattle.lock_manager.specs.Crews.{AreOf, SeatsAre};
-
-use super::desk::{Beginning, append, open_behind};
+use super::desk::{Beginning, DeskOf, open_behind};
 use super::memory::{list_at_last, take_at_last};
+use super::sessions::commit;
+use connections::{Connection, ManagerName};
 use lock_manager::Mode::{
     AccessExclusive, AccessShare, RowExclusive, RowShare, Share, ShareRowExclusive,
     ShareUpdateExclusive,
 };
 use lock_manager::Owner::{Session, Transaction};
 use lock_manager::{
-    Audit, Desk, Listing, Mode, OwnSession, Owner, Refusal, TableRow, Tag, close_sessions,
+    Audit, Board, Desk, Listing, Mode, OwnSession, Owner, Part, Refusal, TableRow, Tag,
 };
-use lock_table::PartTable;
-use shared_rule::Board;
 use std::alloc::Global;
 use std::process::Abort;
 use std::sync::Wait;
@@ -66,18 +63,16 @@ const COMMITTED: Numbers = (3, 3, 2);
 
 pub const NOTHING: Numbers = (0, 0, 0);
 
-/// Takes with `session` all that is for the session at `place`.
-pub fn take_each<T: PartTable, B: Board<T>, R: Abort + Wait>(
+/// Takes with `connection` all that is for the session at `place`.
+pub fn take_each<B: Board<Part>, M: ManagerName, R: Abort + Wait>(
     rt: &R,
-    session: &mut OwnSession<T, B>,
+    connection: &mut Connection<B, M>,
     place: usize,
-)
-    ensures seat { B.seat session.new.board ≡ B.seat session.old.board }
-{
-    'takes: for at in 0..11 {
+) {
+    for at in 0..11 {
         let (whose, number, mode, owner) = TAKES[at];
         if whose == place {
-            take_at_last(rt, session, tag(number), mode, owner);
+            take_at_last(rt, connection, tag(number), mode, owner);
         }
     }
 }
@@ -93,96 +88,64 @@ fn expect_counted<R: Abort>(rt: &R, counted: Result<Audit, Refusal>, expected: N
     assert_eq!(rt; counted, Ok(expected));
 }
 
-/// Lends all open `sessions` to an audit at `desk`, and answers what it counts.
-fn audit<T: PartTable, B: Board<T>, D: Desk<OwnSession<T, B>>, R: Abort + Wait>(
+/// Ends the test where an audit of all open sessions, those of `connections`, doesn't count `expected`, at
+/// the second attempt where there was no memory, since a failed attempt changes nothing.
+pub fn count<B: Board<Part>, D: Desk<OwnSession<Part, B>>, M: ManagerName, R: Abort + Wait>(
     rt: &R,
-    desk: &mut D,
-    sessions: &mut Vec<OwnSession<T, B>>,
-) -> Result<Audit, Refusal>
-    requires seats { SeatsAre B.seat D.seat }
-    requires own { AreOf B.seat (D.manager desk.old) sessions.old.items }
-    ensures manager { D.manager desk.new ≡ D.manager desk.old }
-    ensures live { D.live desk.new ≡ D.live desk.old }
-    ensures own { AreOf B.seat (D.manager desk.old) sessions.new.items }
-    ensures as_many { length sessions.new.items ≡ length sessions.old.items }
-{
-    assert_eq!(rt; sessions.len(), desk.live() as usize);
-    desk.audit(rt, sessions)
-}
-
-/// Ends the test where an audit doesn't count `expected`, at the second attempt where there was no memory,
-/// since a failed attempt changes nothing.
-pub fn count<T: PartTable, B: Board<T>, D: Desk<OwnSession<T, B>>, R: Abort + Wait>(
-    rt: &R,
-    desk: &mut D,
-    sessions: &mut Vec<OwnSession<T, B>>,
+    alloc: Global,
+    desk: &mut DeskOf<B, D, M>,
+    connections: &mut Vec<Connection<B, M>>,
     expected: Numbers,
-)
-    requires seats { SeatsAre B.seat D.seat }
-    requires own { AreOf B.seat (D.manager desk.old) sessions.old.items }
-    ensures manager { D.manager desk.new ≡ D.manager desk.old }
-    ensures live { D.live desk.new ≡ D.live desk.old }
-    ensures own { AreOf B.seat (D.manager desk.old) sessions.new.items }
-    ensures as_many { length sessions.new.items ≡ length sessions.old.items }
-{
-    let mut counted = audit(rt, desk, sessions);
-    if counted == Err(Refusal::NoMemory) {
-        counted = audit(rt, desk, sessions);
+) {
+    let mut counted = desk.audit(rt, alloc, connections);
+    if counted.is_err() {
+        counted = desk.audit(rt, alloc, connections);
     }
     expect_counted(rt, counted, expected);
 }
 
-/// Ends the transactions of all `sessions`, the last one first, by a commit where `is_good`, otherwise by an
-/// abort. Ends the test where an audit doesn't count `expected` after that.
-pub fn end_each<T: PartTable, B: Board<T>, D: Desk<OwnSession<T, B>>, R: Abort + Wait>(
+/// Ends the transaction of `connection`, by a commit where `is_good`, otherwise by an abort.
+fn end<B: Board<Part>, M: ManagerName, R: Wait>(
     rt: &R,
-    alloc: Global,
-    desk: &mut D,
-    mut sessions: Vec<OwnSession<T, B>>,
+    connection: &mut Connection<B, M>,
     is_good: bool,
-    expected: Numbers,
-) -> Vec<OwnSession<T, B>>
-    requires seats { SeatsAre B.seat D.seat }
-    requires own { AreOf B.seat (D.manager desk.old) sessions.items }
-    ensures manager { D.manager desk.new ≡ D.manager desk.old }
-    ensures own { AreOf B.seat (D.manager desk.old) result.items }
-    ensures live { D.live desk.new ≡ D.live desk.old }
-    ensures as_many { length result.items ≡ length sessions.items }
-{
-    let mut ended = Vec::new(alloc);
-    'sessions: while let Some(mut session) = sessions.pop() {
-        if is_good {
-            session.commit(rt);
-        } else {
-            session.abort(rt);
-        }
-        append(rt, &mut ended, session);
+) {
+    if is_good {
+        commit(rt, connection);
+    } else {
+        connection.session.abort(rt);
     }
-    sessions.destroy_empty();
-    count(rt, desk, &mut ended, expected);
-    ended
+}
+
+/// Ends the transactions of all `connections`, by commits where `is_good`, otherwise by aborts.
+pub fn end_each<B: Board<Part>, M: ManagerName, R: Wait>(
+    rt: &R,
+    connections: &mut [Connection<B, M>],
+    is_good: bool,
+) {
+    for connection in connections.iter_mut() {
+        end(rt, connection, is_good);
+    }
 }
 
 /// Has three sessions of `desk` take modes, one after another, all commit, and all abort, and an audit count
 /// each time what they have.
-pub fn audit_often<T: PartTable, B: Board<T>, D: Desk<OwnSession<T, B>>, R: Abort + Wait>(
+pub fn audit_often<B: Board<Part>, D: Desk<OwnSession<Part, B>>, M: ManagerName, R: Abort + Wait>(
     rt: &R,
     alloc: Global,
-    desk: &mut D,
-)
-    requires seats { SeatsAre B.seat D.seat }
-    ensures manager { D.manager desk.new ≡ D.manager desk.old }
-    ensures live { D.live desk.new ≡ D.live desk.old }
-{
-    let mut sessions = Vec::new(alloc);
-    count(rt, desk, &mut sessions, NOTHING);
-    'places: for place in 0..3 {
-        open_behind(rt, desk, &mut sessions, Beginning::TakesEach(place));
-        count(rt, desk, &mut sessions, TAKEN[place]);
+    desk: &mut DeskOf<B, D, M>,
+) {
+    let mut connections = Vec::new(alloc);
+    count(rt, alloc, desk, &mut connections, NOTHING);
+    for place in 0..3 {
+        open_behind(rt, desk, &mut connections, Beginning::TakesEach(place));
+        count(rt, alloc, desk, &mut connections, TAKEN[place]);
     }
-    let sessions = end_each(rt, alloc, desk, sessions, true, COMMITTED);
-    let sessions = end_each(rt, alloc, desk, sessions, false, NOTHING);
-    close_sessions(rt, desk, sessions);
+    end_each(rt, connections.as_mut_slice(), true);
+    count(rt, alloc, desk, &mut connections, COMMITTED);
+    end_each(rt, connections.as_mut_slice(), false);
+    count(rt, alloc, desk, &mut connections, NOTHING);
+    desk.close_all(rt, alloc, connections);
 }
 
 /// How many of `rows` are of holds.
@@ -200,60 +163,37 @@ fn numbers_of(listing: &Listing, strong: u64) -> Numbers {
     )
 }
 
-/// The sum of all strong lock counters, as `session` sees them.
-fn sum_counters<T: PartTable, B: Board<T>>(session: &mut OwnSession<T, B>) -> u64
-    ensures seat { B.seat session.new.board ≡ B.seat session.old.board }
-{
+/// The sum of all strong lock counters, as `connection` sees them.
+fn sum_counters<B: Board<Part>, M: ManagerName>(connection: &mut Connection<B, M>) -> u64 {
     let mut sum = 0u64;
-    'counters: for index in 0..1024 {
-        sum = sum.saturating_add(session.strong_count(index));
+    for index in 0..1024 {
+        sum = sum.saturating_add(connection.session.strong_count(index));
     }
     sum
 }
 
-/// What a listing and the strong lock counters show `session` of all sessions, as an audit counts it.
-fn look<T: PartTable, B: Board<T>, R: Abort + Wait>(
+/// What a listing and the strong lock counters show `connection` of all sessions, as an audit counts it.
+fn look<B: Board<Part>, M: ManagerName, R: Abort + Wait>(
     rt: &R,
-    session: &mut OwnSession<T, B>,
-) -> Numbers
-    ensures seat { B.seat session.new.board ≡ B.seat session.old.board }
-{
-    let strong = sum_counters(session);
-    let listing = list_at_last(rt, session);
+    connection: &mut Connection<B, M>,
+) -> Numbers {
+    let strong = sum_counters(connection);
+    let listing = list_at_last(rt, connection);
     numbers_of(&listing, strong)
 }
 
-/// What a listing and the strong lock counters show the last of `sessions` of all, as an audit counts it.
-fn look_last<T: PartTable, B: Board<T>, D: Desk<OwnSession<T, B>>, R: Abort + Wait>(
-    rt: &R,
-    desk: &D,
-    sessions: &mut Vec<OwnSession<T, B>>,
-) -> Numbers
-    requires own { AreOf B.seat (D.manager desk.now) sessions.old.items }
-    ensures own { AreOf B.seat (D.manager desk.now) sessions.new.items }
-    ensures as_many { length sessions.new.items ≡ length sessions.old.items }
-{
-    let Some(mut session) = sessions.pop() else {
-        return NOTHING;
-    };
-    let seen = look(rt, &mut session);
-    append(rt, sessions, session);
-    seen
-}
-
-/// Ends the test where an audit doesn't count what the last of `sessions` sees, and closes all of them. No
+/// Ends the test where an audit doesn't count what the last of `connections` sees, and closes all of them. No
 /// other session is open.
-pub fn close_counted<T: PartTable, B: Board<T>, D: Desk<OwnSession<T, B>>, R: Abort + Wait>(
+pub fn close_counted<B: Board<Part>, D: Desk<OwnSession<Part, B>>, M: ManagerName, R: Abort + Wait>(
     rt: &R,
-    desk: &mut D,
-    mut sessions: Vec<OwnSession<T, B>>,
-)
-    requires seats { SeatsAre B.seat D.seat }
-    requires own { AreOf B.seat (D.manager desk.old) sessions.items }
-    ensures manager { D.manager desk.new ≡ D.manager desk.old }
-    ensures live { D.live desk.new ≡ D.live desk.old - length sessions.items }
-{
-    let seen = look_last(rt, desk, &mut sessions);
-    count(rt, desk, &mut sessions, seen);
-    close_sessions(rt, desk, sessions);
+    alloc: Global,
+    desk: &mut DeskOf<B, D, M>,
+    mut connections: Vec<Connection<B, M>>,
+) {
+    let seen = match connections.last_mut() {
+        Some(connection) => look(rt, connection),
+        None => NOTHING,
+    };
+    count(rt, alloc, desk, &mut connections, seen);
+    desk.close_all(rt, alloc, connections);
 }

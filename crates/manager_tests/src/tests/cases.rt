@@ -1,12 +1,10 @@
 //! Cases of two sessions: what is done with a pair, which comes back.
 
-ghost use Rattle.std.specs.Prelude.{◌≡◌};
-
 use super::pair::Pair;
 use super::races::Race;
 use super::{busy, listings, memory, monitors, races, waits_of_two};
-use lock_manager::Part;
-use shared_rule::Board;
+use connections::ManagerName;
+use lock_manager::{Board, Part};
 use std::process::Abort;
 use std::sync::Wait;
 use std::thread::Threads;
@@ -32,14 +30,11 @@ pub enum Case {
 }
 
 /// Plays `case` with the two sessions of `pair`, and answers them.
-pub fn perform<B: Board<Part> + Send, R: Abort + Threads + Wait + Sync + Print>(
-    rt: &R,
-    mut pair: Pair<Part, B>,
-    case: Case,
-) -> Pair<Part, B>
-    ensures first { B.seat result.first.board ≡ B.seat pair.first.board }
-    ensures second { B.seat result.second.board ≡ B.seat pair.second.board }
-{
+pub fn perform<
+    B: Board<Part> + Send,
+    M: ManagerName + Send,
+    R: Abort + Threads + Wait + Sync + Print,
+>(rt: &R, mut pair: Pair<B, M>, case: Case) -> Pair<B, M> {
     match case {
         Case::LeavesAsAsked => waits_of_two::leave_as_asked(rt, pair),
         Case::EndsAllWaits => monitors::end_all_waits(rt, pair),
@@ -47,14 +42,23 @@ pub fn perform<B: Board<Part> + Send, R: Abort + Threads + Wait + Sync + Print>(
         Case::LooksTooLate => waits_of_two::look_too_late(rt, pair),
         Case::WaitsAsAsked => waits_of_two::wait_as_asked(rt, pair),
         Case::WaitsForNothing => waits_of_two::wait_for_nothing(rt, pair),
-        Case::GivesUp => waits_of_two::give_up(rt, pair),
-        Case::Sleeps { asks } => waits_of_two::sleep_in_a_thread(rt, pair, asks),
+        Case::GivesUp => {
+            waits_of_two::give_up(rt, &mut pair);
+            pair
+        }
+        Case::Sleeps { asks } => {
+            waits_of_two::sleep_in_a_thread(rt, &mut pair, asks);
+            pair
+        }
         Case::ListsMany => {
             listings::list_many(rt, &mut pair);
             pair
         }
         Case::Races(race, rounds) => races::race_often(rt, pair, race, rounds),
-        Case::FindsSlotsBusy => busy::find_slots_busy(rt, pair),
+        Case::FindsSlotsBusy => {
+            busy::find_slots_busy(rt, &mut pair);
+            pair
+        }
         Case::MovesAtLast => {
             memory::move_often(rt, &mut pair);
             pair

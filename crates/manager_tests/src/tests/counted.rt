@@ -170,7 +170,6 @@ fn make_counted<T: PartTable, B: Board<T>, R: Abort + Wait>(
     place: usize,
 )
     requires { place < 26 }
-    ensures seat { B.seat session.new.board ≡ B.seat session.old.board }
 {
     let (times, call, answer, is_step) = CALLS[place];
     let before = steps.made();
@@ -183,9 +182,7 @@ fn make_all<T: PartTable, B: Board<T>, R: Abort + Wait>(
     rt: &R,
     session: &mut OwnSession<T, B>,
     steps: &Steps,
-)
-    ensures seat { B.seat session.new.board ≡ B.seat session.old.board }
-{
+) {
     for place in 0..26 {
         make_counted(rt, session, steps, place);
     }

@@ -1,16 +1,13 @@
 //! What more than two sessions do side by side, each in a thread of its own: at a manager's desk here, and on
 //! boards that pause in `unsteady`.
 
-ghost use Rattle.std.specs.Prelude.{◌≡◌, length};
-ghost use Rattle.lock_manager.specs.Crews.{KeepManagers, SeatsAre};
-
 use super::audits::close_counted;
 use super::crowds::Crowd;
-use super::desk::{Beginning, open_many};
+use super::desk::{Beginning, DeskOf, open_many};
 use super::threads::Plan;
 use super::{asked, crowds, queues, threads, watches};
-use lock_manager::{Desk, Mode, OwnSession, Part};
-use shared_rule::Board;
+use connections::{Connection, ManagerName};
+use lock_manager::{Board, Desk, Mode, OwnSession, Part};
 use std::alloc::Global;
 use std::process::Abort;
 use std::sync::Wait;
@@ -46,47 +43,29 @@ impl Crew {
     }
 }
 
-/// Has `sessions` do what `crew` does.
-fn act<B: Board<Part> + Send, R: Abort + Clock + Threads + Wait + Sync + Print>(
-    rt: &R,
-    sessions: &mut [OwnSession<Part, B>],
-    crew: Crew,
-)
-    ensures own { KeepManagers B.seat sessions.old sessions.new }
-{
+/// Has the sessions of `connections` do what `crew` does.
+pub fn act<
+    B: Board<Part> + Send,
+    M: ManagerName + Send,
+    R: Abort + Clock + Threads + Wait + Sync + Print,
+>(rt: &R, connections: &mut [Connection<B, M>], crew: Crew) {
     match crew {
-        Crew::Asks(_, plan) => threads::ask_all(rt, sessions, plan),
-        Crew::Queue(mode) => queues::wake_sleepers(rt, sessions, mode),
-        Crew::Asked(rounds) => asked::race_three(rt, sessions, rounds),
-        Crew::Watch => watches::list_beside(rt, sessions),
-        Crew::Crowd(crowd) => crowds::act(rt, sessions, crowd),
+        Crew::Asks(_, plan) => threads::ask_all(rt, connections, plan),
+        Crew::Queue(mode) => queues::wake_sleepers(rt, connections, mode),
+        Crew::Asked(rounds) => asked::race_three(rt, connections, rounds),
+        Crew::Watch => watches::list_beside(rt, connections),
+        Crew::Crowd(crowd) => crowds::act(rt, connections, crowd),
     }
-}
-
-/// Has the sessions of the list `sessions` do what `crew` does, and answers the list.
-pub fn act_all<B: Board<Part> + Send, R: Abort + Clock + Threads + Wait + Sync + Print>(
-    rt: &R,
-    mut sessions: Vec<OwnSession<Part, B>>,
-    crew: Crew,
-) -> Vec<OwnSession<Part, B>>
-    ensures own { KeepManagers B.seat sessions.items result.items }
-    ensures as_many { length result.items ≡ length sessions.items }
-{
-    act(rt, sessions.as_mut_slice(), crew);
-    sessions
 }
 
 /// Has as many sessions of `desk` as `crew` has do what it does.
 pub fn act_at<
     B: Board<Part> + Send,
     D: Desk<OwnSession<Part, B>>,
+    M: ManagerName + Send,
     R: Abort + Clock + Threads + Wait + Sync + Print,
->(rt: &R, alloc: Global, desk: &mut D, crew: Crew)
-    requires seats { SeatsAre B.seat D.seat }
-    ensures manager { D.manager desk.new ≡ D.manager desk.old }
-    ensures live { D.live desk.new ≡ D.live desk.old }
-{
-    let sessions = open_many(rt, alloc, desk, crew.sessions(), Beginning::Nothing);
-    let sessions = act_all(rt, sessions, crew);
-    close_counted(rt, desk, sessions);
+>(rt: &R, alloc: Global, desk: &mut DeskOf<B, D, M>, crew: Crew) {
+    let mut connections = open_many(rt, alloc, desk, crew.sessions(), Beginning::Nothing);
+    act(rt, connections.as_mut_slice(), crew);
+    close_counted(rt, alloc, desk, connections);
 }

@@ -2,19 +2,16 @@
 //! watchdog that ends the test where nobody goes on. So no session sleeps for ever in the wait list of the
 //! partition's lightweight lock, or in the object's queue.
 
-ghost use Rattle.std.specs.Prelude.{◌≡◌};
-ghost use Rattle.lock_manager.specs.Crews.{KeepManagers};
-
-use super::answers::{expect_granted, expect_released};
+use super::answers::expect_granted;
 use super::gates::Gate;
+use super::sessions::{acquire, give_tag_back, try_lock};
 use super::side_by_side::{Play, play_side_by_side};
-use lock_manager::{Mode, OwnSession, Owner, Part, Tag};
-use lock_table::PartTable;
-use shared_rule::Board;
+use connections::{Connection, ManagerName};
+use lock_manager::{Board, Mode, Owner, Part, Tag};
 use std::process::Abort;
 use std::sync::Wait;
 use std::sync::atomic::{AtomicBool, AtomicU64, Ordering};
-use std::thread::{Threads, join_mut, sleep};
+use std::thread::{Threads, join, sleep};
 use std::time::{Clock, Duration};
 
 /// What the sessions of a crowd take.
@@ -117,22 +114,19 @@ fn object_of(takes: Takes, number: u32) -> Tag {
     }
 }
 
-/// Locks `tag` with `session`, which waits for it where it is to be the one object, and unlocks it.
-fn lock_once<T: PartTable, B: Board<T>, R: Abort + Wait>(
+/// Locks `tag` with `connection`, which waits for it where it is to be the one object, and unlocks it.
+fn lock_once<B: Board<Part>, M: ManagerName, R: Abort + Wait>(
     rt: &R,
-    session: &mut OwnSession<T, B>,
+    connection: &mut Connection<B, M>,
     takes: Takes,
     tag: Tag,
-)
-    ensures seat { B.seat session.new.board ≡ B.seat session.old.board }
-{
+) {
     let answer = match takes {
-        Takes::OwnObjects => session.try_lock(rt, tag, Mode::Exclusive, Owner::Transaction),
-        Takes::OneObject => session.acquire(rt, tag, Mode::Exclusive, Owner::Transaction),
+        Takes::OwnObjects => try_lock(rt, connection, tag, Mode::Exclusive, Owner::Transaction),
+        Takes::OneObject => acquire(rt, connection, tag, Mode::Exclusive, Owner::Transaction),
     };
     expect_granted(rt, answer, tag, Mode::Exclusive);
-    let released = session.unlock(rt, tag, Mode::Exclusive, Owner::Transaction);
-    expect_released(rt, released, tag, Mode::Exclusive);
+    give_tag_back(rt, connection, tag, Mode::Exclusive, Owner::Transaction);
 }
 
 /// A crowd whose sessions show the watchdog what they do.
@@ -143,51 +137,46 @@ struct Watched<'a> {
 }
 
 impl Play for Watched<'_> {
-    /// Locks and unlocks with `session` over and over, once all have come, and shows it to the watchdog.
-    fn play<T: PartTable, B: Board<T>, R: Abort + Clock + Wait>(
+    /// Locks and unlocks with `connection` over and over, once all have come, and shows it to the watchdog.
+    fn play<B: Board<Part>, M: ManagerName, R: Abort + Clock + Wait>(
         &self,
         rt: &R,
-        session: &mut OwnSession<T, B>,
+        connection: &mut Connection<B, M>,
     ) {
-        let number = u32::from(session.id().number());
+        let number = u32::from(connection.session.id().number());
         let tag = object_of(self.crowd.takes, number);
         self.watch
             .start
             .come_asleep(rt, u64::from(self.crowd.sessions));
-        'rounds: for _ in 0..self.crowd.rounds {
-            lock_once(rt, session, self.crowd.takes, tag);
+        for _ in 0..self.crowd.rounds {
+            lock_once(rt, connection, self.crowd.takes, tag);
             self.watch.rounds.fetch_add(1, Ordering::SeqCst);
         }
         self.watch.end(number);
     }
 }
 
-/// Has each of `sessions` lock and unlock in a thread of its own, and shows to the watchdog that all is over.
-fn lock_until_over<B: Board<Part> + Send, R: Abort + Clock + Threads + Wait + Sync>(
-    rt: &R,
-    sessions: &mut [OwnSession<Part, B>],
-    crowd: Crowd,
-    watch: &Watch,
-)
-    ensures own { KeepManagers B.seat sessions.old sessions.new }
-{
-    play_side_by_side(rt, &Watched { crowd, watch }, sessions);
+/// Has each of `connections` lock and unlock in a thread of its own, and shows to the watchdog that all is
+/// over.
+fn lock_until_over<
+    B: Board<Part> + Send,
+    M: ManagerName + Send,
+    R: Abort + Clock + Threads + Wait + Sync,
+>(rt: &R, connections: &mut [Connection<B, M>], crowd: Crowd, watch: &Watch) {
+    play_side_by_side(rt, &Watched { crowd, watch }, connections);
     watch.is_over.store(true, Ordering::SeqCst);
 }
 
-/// Has each of `sessions` lock and unlock in a thread of its own, under the watchdog.
-fn lock_watched<B: Board<Part> + Send, R: Abort + Clock + Threads + Wait + Sync>(
-    rt: &R,
-    sessions: &mut [OwnSession<Part, B>],
-    crowd: Crowd,
-    watch: &Watch,
-)
-    ensures own { KeepManagers B.seat sessions.old sessions.new }
-{
-    join_mut(
+/// Has each of `connections` lock and unlock in a thread of its own, under the watchdog.
+fn lock_watched<
+    B: Board<Part> + Send,
+    M: ManagerName + Send,
+    R: Abort + Clock + Threads + Wait + Sync,
+>(rt: &R, connections: &mut [Connection<B, M>], crowd: Crowd, watch: &Watch) {
+    join(
         rt,
-        &mut || lock_until_over(rt, sessions, crowd, watch),
-        &mut || guard(rt, watch),
+        || lock_until_over(rt, connections, crowd, watch),
+        || guard(rt, watch),
     );
 }
 
@@ -216,16 +205,14 @@ pub fn guard<R: Abort + Clock + Wait>(rt: &R, watch: &Watch) {
     unreachable!()
 }
 
-/// Has all of `sessions`, as many as `crowd` says, lock and unlock what it says.
-pub fn act<B: Board<Part> + Send, R: Abort + Clock + Threads + Wait + Sync>(
+/// Has all of `connections`, as many as `crowd` says, lock and unlock what it says.
+pub fn act<B: Board<Part> + Send, M: ManagerName + Send, R: Abort + Clock + Threads + Wait + Sync>(
     rt: &R,
-    sessions: &mut [OwnSession<Part, B>],
+    connections: &mut [Connection<B, M>],
     crowd: Crowd,
-)
-    ensures own { KeepManagers B.seat sessions.old sessions.new }
-{
+) {
     let watch = Watch::new();
-    lock_watched(rt, sessions, crowd, &watch);
+    lock_watched(rt, connections, crowd, &watch);
     let rounds = watch.rounds.load(Ordering::SeqCst);
     assert_eq!(rt; rounds, crowd.all());
 }

@@ -1,14 +1,11 @@
 //! As many local entries as there may be, of one session and of all: granted, counted, listed and given back.
 
-ghost use Rattle.std.specs.Prelude.{◌≡◌, length};
-ghost use Rattle.lock_manager.specs.Crews.{AreOf, SeatsAre};
-
-use super::answers::{expect_granted, expect_rows};
+use super::answers::expect_rows;
 use super::audits::{NOTHING, Numbers, count, end_each};
-use super::desk::{Beginning, append, open_many};
-use lock_manager::{Desk, Mode, OwnSession, Owner, Refusal, Tag, close_sessions};
-use lock_table::PartTable;
-use shared_rule::Board;
+use super::desk::{Beginning, DeskOf, open_many};
+use super::sessions::{list, take_tag, try_lock};
+use connections::{Connection, ManagerName};
+use lock_manager::{Board, Desk, Mode, OwnSession, Owner, Part, Refusal, Tag};
 use std::alloc::Global;
 use std::process::Abort;
 use std::sync::Wait;
@@ -43,61 +40,49 @@ fn entry(session: u16, number: u32) -> (Tag, Mode) {
     }
 }
 
-/// Takes `entries` modes with `session`, and is refused one more.
-pub fn fill<T: PartTable, B: Board<T>, R: Abort + Wait>(
+/// Takes `entries` modes with `connection`, and is refused one more.
+pub fn fill<B: Board<Part>, M: ManagerName, R: Abort + Wait>(
     rt: &R,
-    session: &mut OwnSession<T, B>,
+    connection: &mut Connection<B, M>,
     entries: u32,
-)
-    ensures seat { B.seat session.new.board ≡ B.seat session.old.board }
-{
-    let number = session.id().number();
-    'entries: for at in 0..entries {
+) {
+    let number = connection.session.id().number();
+    for at in 0..entries {
         let (tag, mode) = entry(number, at);
-        let answer = session.try_lock(rt, tag, mode, Owner::Transaction);
-        expect_granted(rt, answer, tag, mode);
+        take_tag(rt, connection, tag, mode, Owner::Transaction);
     }
     let (tag, mode) = entry(number, entries);
-    let answer = session.try_lock(rt, tag, mode, Owner::Transaction);
+    let answer = try_lock(rt, connection, tag, mode, Owner::Transaction);
     assert_eq!(rt; answer, Err(Refusal::LocalFull), "{entries} entries");
 }
 
-/// Lists with the last of `sessions` what all have, which is to be `expected`.
-pub fn list_all<T: PartTable, B: Board<T>, D: Desk<OwnSession<T, B>>, R: Abort + Wait>(
+/// Lists with the last of `connections` what all have, which is to be `expected`.
+pub fn list_all<B: Board<Part>, M: ManagerName, R: Abort + Wait>(
     rt: &R,
-    desk: &D,
-    sessions: &mut Vec<OwnSession<T, B>>,
+    connections: &mut Vec<Connection<B, M>>,
     expected: Numbers,
-)
-    requires own { AreOf B.seat (D.manager desk.now) sessions.old.items }
-    ensures own { AreOf B.seat (D.manager desk.now) sessions.new.items }
-    ensures as_many { length sessions.new.items ≡ length sessions.old.items }
-{
+) {
     let (fast, table, _) = expected;
-    if let Some(mut session) = sessions.pop() {
-        let listing = session.list(rt).expect(rt, "a listing");
+    if let Some(connection) = connections.last_mut() {
+        let listing = list(rt, connection).expect(rt, "a listing");
         expect_rows(rt, &listing, fast as usize, table as usize);
-        append(rt, sessions, session);
     }
 }
 
 /// Has all sessions of `desk` take all that they may have by `limits`, which is counted and listed, and give
 /// it back.
-pub fn hold_all<T: PartTable, B: Board<T>, D: Desk<OwnSession<T, B>>, R: Abort + Wait>(
+pub fn hold_all<B: Board<Part>, D: Desk<OwnSession<Part, B>>, M: ManagerName, R: Abort + Wait>(
     rt: &R,
     alloc: Global,
-    desk: &mut D,
+    desk: &mut DeskOf<B, D, M>,
     limits: Limits,
-)
-    requires seats { SeatsAre B.seat D.seat }
-    ensures manager { D.manager desk.new ≡ D.manager desk.old }
-    ensures live { D.live desk.new ≡ D.live desk.old }
-{
+) {
     let begins = Beginning::Fills(limits.entries);
-    let mut sessions = open_many(rt, alloc, desk, limits.sessions, begins);
+    let mut connections = open_many(rt, alloc, desk, limits.sessions, begins);
     let held = limits.held();
-    count(rt, desk, &mut sessions, held);
-    list_all(rt, desk, &mut sessions, held);
-    let sessions = end_each(rt, alloc, desk, sessions, true, NOTHING);
-    close_sessions(rt, desk, sessions);
+    count(rt, alloc, desk, &mut connections, held);
+    list_all(rt, &mut connections, held);
+    end_each(rt, connections.as_mut_slice(), true);
+    count(rt, alloc, desk, &mut connections, NOTHING);
+    desk.close_all(rt, alloc, connections);
 }

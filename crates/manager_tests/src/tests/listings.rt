@@ -1,25 +1,23 @@
 //! Listings of hundreds of rows, of all partitions.
 
-ghost use Rattle.std.specs.Prelude.{◌≡◌};
-
-use super::answers::{expect_granted, expect_rows};
+use super::answers::expect_rows;
 use super::pair::Pair;
-use lock_manager::{Mode, OwnSession, Owner, TableRow, Tag};
-use lock_table::PartTable;
-use shared_rule::Board;
+use super::sessions::{list, take_tag};
+use connections::{Connection, ManagerName};
+use lock_manager::{Board, Mode, Owner, Part, TableRow, Tag};
 use std::process::Abort;
 use std::sync::Wait;
 
 pub const MANY: u32 = 200;
 
-/// Shares many objects with `session`, which asks for them neither in rising nor in falling order.
-fn share_many<T: PartTable, B: Board<T>, R: Abort + Wait>(rt: &R, session: &mut OwnSession<T, B>)
-    ensures seat { B.seat session.new.board ≡ B.seat session.old.board }
-{
+/// Shares many objects with `connection`, which asks for them neither in rising nor in falling order.
+fn share_many<B: Board<Part>, M: ManagerName, R: Abort + Wait>(
+    rt: &R,
+    connection: &mut Connection<B, M>,
+) {
     for number in 0..MANY {
         let tag = Tag::object(5, 1_259, number * 77 % MANY, 0);
-        let answer = session.try_lock(rt, tag, Mode::Share, Owner::Session);
-        expect_granted(rt, answer, tag, Mode::Share);
+        take_tag(rt, connection, tag, Mode::Share, Owner::Session);
     }
 }
 
@@ -40,13 +38,10 @@ fn expect_order<R: Abort>(rt: &R, rows: &[TableRow]) {
 }
 
 /// Has the two sessions of `pair` share many objects, and one of them list.
-pub fn list_many<T: PartTable, B: Board<T>, R: Abort + Wait>(rt: &R, pair: &mut Pair<T, B>)
-    ensures first { B.seat pair.new.first.board ≡ B.seat pair.old.first.board }
-    ensures second { B.seat pair.new.second.board ≡ B.seat pair.old.second.board }
-{
+pub fn list_many<B: Board<Part>, M: ManagerName, R: Abort + Wait>(rt: &R, pair: &mut Pair<B, M>) {
     share_many(rt, &mut pair.first);
     share_many(rt, &mut pair.second);
-    let listing = pair.first.list(rt).expect(rt, "a listing");
+    let listing = list(rt, &mut pair.first).expect(rt, "a listing");
     expect_rows(rt, &listing, 0, 2 * MANY as usize);
     expect_order(rt, listing.table.as_slice());
 }

@@ -1,16 +1,14 @@
 //! Want of memory is an answer, after which nothing is lost.
 
-ghost use Rattle.std.specs.Prelude.{◌≡◌, ◌<◌};
-ghost use Rattle.lock_manager.specs.Crews.{SeatsAre};
-
-use super::answers::{Answer, expect_answer, expect_granted, expect_released};
-use super::desk::open;
+use super::answers::{Answer, expect_answer, expect_granted};
+use super::desk::DeskOf;
 use super::pair::Pair;
+use super::sessions::{give_tag_back, list, try_lock};
+use connections::{Connection, ManagerName};
 use lock_manager::{
-    Desk, How, Listing, Mode, OwnSession, Owner, Refusal, SessionId, SlotRow, TableRow, Tag,
+    Board, Desk, How, Listing, Mode, OwnSession, Owner, Part, Refusal, SessionId, SlotRow,
+    TableRow, Tag,
 };
-use lock_table::PartTable;
-use shared_rule::Board;
 use std::process::Abort;
 use std::sync::Wait;
 
@@ -29,105 +27,82 @@ fn is_out_of_memory(answer: &Answer) -> bool {
     *answer == Err(Refusal::NoMemory)
 }
 
-/// Asks with `session` for `tag` in `mode` for `owner`, and again where there was no memory. A refusal for
-/// that leaves what `session` had.
-fn try_at_last<T: PartTable, B: Board<T>, R: Abort + Wait>(
+/// Asks with `connection` for `tag` in `mode` for `owner`, and again where there was no memory. A refusal for
+/// that leaves what `connection` had.
+fn try_at_last<B: Board<Part>, M: ManagerName, R: Abort + Wait>(
     rt: &R,
-    session: &mut OwnSession<T, B>,
+    connection: &mut Connection<B, M>,
     tag: Tag,
     mode: Mode,
     owner: Owner,
-) -> Answer
-    ensures seat { B.seat session.new.board ≡ B.seat session.old.board }
-{
-    let held = session.held(tag).mask();
-    let answer = session.try_lock(rt, tag, mode, owner);
+) -> Answer {
+    let held = connection.session.held(tag).mask();
+    let answer = try_lock(rt, connection, tag, mode, owner);
     if !is_out_of_memory(&answer) {
         return answer;
     }
-    assert_eq!(rt; session.held(tag).mask(), held);
-    session.try_lock(rt, tag, mode, owner)
+    assert_eq!(rt; connection.session.held(tag).mask(), held);
+    try_lock(rt, connection, tag, mode, owner)
 }
 
-/// Takes `tag` in `mode` for `owner` with `session`, at the second attempt where there was no memory.
-pub fn take_at_last<T: PartTable, B: Board<T>, R: Abort + Wait>(
+/// Takes `tag` in `mode` for `owner` with `connection`, at the second attempt where there was no memory.
+pub fn take_at_last<B: Board<Part>, M: ManagerName, R: Abort + Wait>(
     rt: &R,
-    session: &mut OwnSession<T, B>,
+    connection: &mut Connection<B, M>,
     tag: Tag,
     mode: Mode,
     owner: Owner,
-)
-    ensures seat { B.seat session.new.board ≡ B.seat session.old.board }
-{
-    let answer = try_at_last(rt, session, tag, mode, owner);
+) {
+    let answer = try_at_last(rt, connection, tag, mode, owner);
     expect_granted(rt, answer, tag, mode);
 }
 
-/// Takes as many modes with `session` as `MANY` says, each at the second attempt where there was no memory.
-fn take_many<T: PartTable, B: Board<T>, R: Abort + Wait>(rt: &R, session: &mut OwnSession<T, B>)
-    ensures seat { B.seat session.new.board ≡ B.seat session.old.board }
-{
+/// Takes as many modes with `connection` as `MANY` says, each at the second attempt where there was no
+/// memory.
+fn take_many<B: Board<Part>, M: ManagerName, R: Abort + Wait>(
+    rt: &R,
+    connection: &mut Connection<B, M>,
+) {
     for number in 0..MANY {
         let (tag, mode) = object(number);
-        take_at_last(rt, session, tag, mode, Owner::Session);
+        take_at_last(rt, connection, tag, mode, Owner::Session);
     }
 }
 
-/// A listing by `session`, at the second attempt where there was no memory.
-pub fn list_at_last<T: PartTable, B: Board<T>, R: Abort + Wait>(
+/// A listing by `connection`, at the second attempt where there was no memory.
+pub fn list_at_last<B: Board<Part>, M: ManagerName, R: Abort + Wait>(
     rt: &R,
-    session: &mut OwnSession<T, B>,
-) -> Listing
-    ensures seat { B.seat session.new.board ≡ B.seat session.old.board }
-{
-    let mut listing = session.list(rt);
+    connection: &mut Connection<B, M>,
+) -> Listing {
+    let mut listing = list(rt, connection);
     if listing.is_err() {
-        listing = session.list(rt);
+        listing = list(rt, connection);
     }
     listing.expect(rt, "one want of memory at most")
 }
 
-/// Gives `tag` in `mode` back with `session`.
-fn give_back<T: PartTable, B: Board<T>, R: Abort + Wait>(
+/// Sees that all that `connection` took are held and listed, and gives each back.
+fn give_many_back<B: Board<Part>, M: ManagerName, R: Abort + Wait>(
     rt: &R,
-    session: &mut OwnSession<T, B>,
-    tag: Tag,
-    mode: Mode,
-)
-    ensures seat { B.seat session.new.board ≡ B.seat session.old.board }
-{
-    let released = session.unlock(rt, tag, mode, Owner::Session);
-    expect_released(rt, released, tag, mode);
-}
-
-/// Sees that all that `session` took are held and listed, and gives each back.
-fn give_many_back<T: PartTable, B: Board<T>, R: Abort + Wait>(
-    rt: &R,
-    session: &mut OwnSession<T, B>,
-)
-    ensures seat { B.seat session.new.board ≡ B.seat session.old.board }
-{
-    let rows = list_at_last(rt, session).table.len();
+    connection: &mut Connection<B, M>,
+) {
+    let rows = list_at_last(rt, connection).table.len();
     assert_eq!(rt; rows, MANY as usize);
     for number in 0..MANY {
         let (tag, mode) = object(number);
-        give_back(rt, session, tag, mode);
+        give_tag_back(rt, connection, tag, mode, Owner::Session);
     }
 }
 
 /// Has a session of `desk` take many modes and give them back.
-pub fn go_on<T: PartTable, B: Board<T>, D: Desk<OwnSession<T, B>>, R: Abort + Wait>(
+pub fn go_on<B: Board<Part>, D: Desk<OwnSession<Part, B>>, M: ManagerName, R: Abort + Wait>(
     rt: &R,
-    desk: &mut D,
-)
-    requires seats { SeatsAre B.seat D.seat }
-    ensures manager { D.manager desk.new ≡ D.manager desk.old }
-    ensures live { D.live desk.new ≡ D.live desk.old }
-{
-    let mut session = open(rt, desk);
-    take_many(rt, &mut session);
-    give_many_back(rt, &mut session);
-    desk.close(rt, session);
+    desk: &mut DeskOf<B, D, M>,
+) {
+    let mut connection = desk.open(rt);
+    take_many(rt, &mut connection);
+    give_many_back(rt, &mut connection);
+    desk.close(rt, connection);
 }
 
 const TABLE: Tag = Tag::Relation {
@@ -174,87 +149,82 @@ fn expect_once<R: Abort>(rt: &R, listing: &Listing, mode: Mode) {
     assert_eq!(rt; in_slots.saturating_add(in_table), 1, "{mode}");
 }
 
-/// Sees with `session` that nothing of a strong mode is left that was refused, and that the weak ones are
+/// Sees with `connection` that nothing of a strong mode is left that was refused, and that the weak ones are
 /// where they may be.
-fn see_no_trace<T: PartTable, B: Board<T>, R: Abort + Wait>(rt: &R, session: &mut OwnSession<T, B>)
-    ensures seat { B.seat session.new.board ≡ B.seat session.old.board }
-{
-    assert_eq!(rt; session.strong_count(TABLE.strong_index()), 0);
-    let listing = list_at_last(rt, session);
+fn see_no_trace<B: Board<Part>, M: ManagerName, R: Abort + Wait>(
+    rt: &R,
+    connection: &mut Connection<B, M>,
+) {
+    assert_eq!(rt; connection.session.strong_count(TABLE.strong_index()), 0);
+    let listing = list_at_last(rt, connection);
     expect_once(rt, &listing, Mode::AccessShare);
     expect_once(rt, &listing, Mode::RowExclusive);
 }
 
-/// Asks for the strong mode with `session`, and again where there was no memory.
-fn try_strong_at_last<T: PartTable, B: Board<T>, R: Abort + Wait>(
+/// Asks for the strong mode with `connection`, and again where there was no memory.
+fn try_strong_at_last<B: Board<Part>, M: ManagerName, R: Abort + Wait>(
     rt: &R,
-    session: &mut OwnSession<T, B>,
-) -> Answer
-    ensures seat { B.seat session.new.board ≡ B.seat session.old.board }
-{
-    let answer = session.try_lock(rt, TABLE, Mode::AccessExclusive, Owner::Session);
+    connection: &mut Connection<B, M>,
+) -> Answer {
+    let answer = try_lock(rt, connection, TABLE, Mode::AccessExclusive, Owner::Session);
     if !is_out_of_memory(&answer) {
         return answer;
     }
-    see_no_trace(rt, session);
-    session.try_lock(rt, TABLE, Mode::AccessExclusive, Owner::Session)
+    see_no_trace(rt, connection);
+    try_lock(rt, connection, TABLE, Mode::AccessExclusive, Owner::Session)
 }
 
-/// Asks for the strong mode with `session`, which the weak ones of `other` are in the way of.
-fn ask_for_strong<T: PartTable, B: Board<T>, R: Abort + Wait>(
+/// Asks for the strong mode with `connection`, which the weak ones of `other` are in the way of.
+fn ask_for_strong<B: Board<Part>, M: ManagerName, R: Abort + Wait>(
     rt: &R,
-    session: &mut OwnSession<T, B>,
+    connection: &mut Connection<B, M>,
     other: SessionId,
-)
-    ensures seat { B.seat session.new.board ≡ B.seat session.old.board }
-{
-    let answer = try_strong_at_last(rt, session);
+) {
+    let answer = try_strong_at_last(rt, connection);
     let conflict = Refusal::Conflict {
         session: other,
         mode: Mode::AccessShare,
         how: How::Held,
     };
     expect_answer(rt, answer, Err(conflict));
-    see_no_trace(rt, session);
+    see_no_trace(rt, connection);
 }
 
 /// Has the first session of `pair` take two weak modes in a slot, the second one ask for a strong one, and
 /// the first one give back.
-fn move_once<T: PartTable, B: Board<T>, R: Abort + Wait>(rt: &R, pair: &mut Pair<T, B>)
-    ensures first { B.seat pair.new.first.board ≡ B.seat pair.old.first.board }
-    ensures second { B.seat pair.new.second.board ≡ B.seat pair.old.second.board }
-{
+fn move_once<B: Board<Part>, M: ManagerName, R: Abort + Wait>(rt: &R, pair: &mut Pair<B, M>) {
     let Pair { first, second } = pair;
     take_at_last(rt, first, TABLE, Mode::AccessShare, Owner::Session);
     take_at_last(rt, first, TABLE, Mode::RowExclusive, Owner::Session);
     assert_eq!(rt; list_at_last(rt, first).fast.len(), 2);
-    ask_for_strong(rt, second, first.id());
-    give_back(rt, first, TABLE, Mode::AccessShare);
-    give_back(rt, first, TABLE, Mode::RowExclusive);
+    ask_for_strong(rt, second, first.session.id());
+    give_tag_back(rt, first, TABLE, Mode::AccessShare, Owner::Session);
+    give_tag_back(rt, first, TABLE, Mode::RowExclusive, Owner::Session);
 }
 
-/// Takes further locks in the partition of the table with `session`, others for each `transfer`.
-fn take_beside<T: PartTable, B: Board<T>, R: Abort + Wait>(
+/// Takes further locks in the partition of the table with `connection`, others for each `transfer`.
+fn take_beside<B: Board<Part>, M: ManagerName, R: Abort + Wait>(
     rt: &R,
-    session: &mut OwnSession<T, B>,
+    connection: &mut Connection<B, M>,
     transfer: u32,
-)
-    ensures seat { B.seat session.new.board ≡ B.seat session.old.board }
-{
+) {
     for place in 0..BESIDE {
         let tag = Tag::relation(5, 32_768 | transfer << 6 | place << 4);
         assert_eq!(rt; tag.partition(), TABLE.partition());
-        take_at_last(rt, session, tag, Mode::ShareUpdateExclusive, Owner::Session);
+        take_at_last(
+            rt,
+            connection,
+            tag,
+            Mode::ShareUpdateExclusive,
+            Owner::Session,
+        );
     }
 }
 
 /// Moves modes of `pair` out of their slots again and again, while the table's partition fills. At the end
 /// nobody has the table, and the second one takes it.
-pub fn move_often<T: PartTable, B: Board<T>, R: Abort + Wait>(rt: &R, pair: &mut Pair<T, B>)
-    ensures first { B.seat pair.new.first.board ≡ B.seat pair.old.first.board }
-    ensures second { B.seat pair.new.second.board ≡ B.seat pair.old.second.board }
-{
-    'transfers: for transfer in 0..TRANSFERS {
+pub fn move_often<B: Board<Part>, M: ManagerName, R: Abort + Wait>(rt: &R, pair: &mut Pair<B, M>) {
+    for transfer in 0..TRANSFERS {
         move_once(rt, pair);
         take_beside(rt, &mut pair.second, transfer);
     }

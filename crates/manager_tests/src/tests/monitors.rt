@@ -1,12 +1,9 @@
 //! A session that sees who waits for whom, and that ends all waits.
 
-ghost use Rattle.std.specs.Prelude.{◌≡◌};
-
 use super::pair::Pair;
 use super::waits::{TABLE, find_still, give_back, leave, queue, take};
-use lock_manager::{Blocked, How, Mode, OwnSession, Refusal, SessionId};
-use lock_table::PartTable;
-use shared_rule::Board;
+use connections::{Connection, ManagerName};
+use lock_manager::{Blocked, Board, How, Mode, Part, Refusal, SessionId};
 use std::process::Abort;
 use std::sync::Wait;
 
@@ -54,48 +51,46 @@ fn expect_none<R: Abort>(rt: &R, answer: Result<Vec<Blocked>, Refusal>) {
     assert_eq!(rt; seen, Some(0));
 }
 
-/// Sees with `session` no wait at all.
-fn see_none<T: PartTable, B: Board<T>, R: Abort + Wait>(rt: &R, session: &mut OwnSession<T, B>)
-    ensures seat { B.seat session.new.board ≡ B.seat session.old.board }
-{
-    expect_none(rt, session.waits(rt));
-}
-
-/// Sees with `session`, which has the table in `Exclusive`, the wait of the session numbered `waiter` for
-/// `RowShare` there.
-fn see_one<T: PartTable, B: Board<T>, R: Abort + Wait>(
+/// Sees with `connection` no wait at all.
+fn see_none<B: Board<Part>, M: ManagerName, R: Abort + Wait>(
     rt: &R,
-    session: &mut OwnSession<T, B>,
-    waiter: SessionId,
-)
-    ensures seat { B.seat session.new.board ≡ B.seat session.old.board }
-{
-    let holder = session.id();
-    expect_one(rt, session.waits(rt), waiter, holder);
+    connection: &mut Connection<B, M>,
+) {
+    expect_none(rt, connection.session.waits(rt));
 }
 
-/// Asks all to cancel with `session`. Ends the test where not `waited` of them wait.
-fn ask_all<T: PartTable, B: Board<T>, R: Abort>(rt: &R, session: &mut OwnSession<T, B>, waited: u32)
-    ensures seat { B.seat session.new.board ≡ B.seat session.old.board }
-{
-    assert_eq!(rt; session.ask_all_to_cancel(), waited);
+/// Sees with `connection`, which has the table in `Exclusive`, the wait of the session numbered `waiter` for
+/// `RowShare` there.
+fn see_one<B: Board<Part>, M: ManagerName, R: Abort + Wait>(
+    rt: &R,
+    connection: &mut Connection<B, M>,
+    waiter: SessionId,
+) {
+    let holder = connection.session.id();
+    expect_one(rt, connection.session.waits(rt), waiter, holder);
+}
+
+/// Asks all to cancel with `connection`. Ends the test where not `waited` of them wait.
+fn ask_all<B: Board<Part>, M: ManagerName, R: Abort>(
+    rt: &R,
+    connection: &mut Connection<B, M>,
+    waited: u32,
+) {
+    assert_eq!(rt; connection.session.ask_all_to_cancel(), waited);
 }
 
 /// Has the first session of `pair` see how the second one waits for what it has, and end that wait as it ends
 /// all.
-pub fn end_all_waits<T: PartTable, B: Board<T>, R: Abort + Wait>(
+pub fn end_all_waits<B: Board<Part>, M: ManagerName, R: Abort + Wait>(
     rt: &R,
-    pair: Pair<T, B>,
-) -> Pair<T, B>
-    ensures first { B.seat result.first.board ≡ B.seat pair.first.board }
-    ensures second { B.seat result.second.board ≡ B.seat pair.second.board }
-{
+    pair: Pair<B, M>,
+) -> Pair<B, M> {
     let Pair { mut first, second } = pair;
     take(rt, &mut first, Mode::Exclusive);
     see_none(rt, &mut first);
     ask_all(rt, &mut first, 0);
     let waiting = find_still(rt, queue(rt, second, Mode::RowShare), false);
-    see_one(rt, &mut first, waiting.id());
+    see_one(rt, &mut first, waiting.waiting.id());
     ask_all(rt, &mut first, 1);
     let second = leave(rt, find_still(rt, waiting, true));
     see_none(rt, &mut first);

@@ -1,16 +1,13 @@
 //! Sessions in one queue, each asleep in a thread of its own, and each woken by the one before it, or all by
 //! one release.
 
-ghost use Rattle.std.specs.Prelude.{◌≡◌};
-ghost use Rattle.lock_manager.specs.Crews.{KeepManagers};
-
 use super::answers::expect_granted;
+use super::sessions::acquire;
 use super::side_by_side::{Play, play_side_by_side};
 use super::waits::{OWNER, TABLE, give_back, see_wait, take};
 use super::wakes::pause;
-use lock_manager::{Mode, OwnSession, Part, SessionId};
-use lock_table::PartTable;
-use shared_rule::Board;
+use connections::{Connection, ManagerName};
+use lock_manager::{Board, Mode, Part, SessionId};
 use std::process::Abort;
 use std::sync::Wait;
 use std::sync::atomic::{AtomicBool, AtomicU64, Ordering};
@@ -58,90 +55,82 @@ impl Tally {
     }
 }
 
-/// Waits until it is the turn of `session` to join the queue: once the session with the number before its own
-/// waits. The first one to join does so after the holder, which `tally` shows.
-fn see_turn<T: PartTable, B: Board<T>, R: Wait>(
+/// Waits until it is the turn of `connection` to join the queue: once the session with the number before its
+/// own waits. The first one to join does so after the holder, which `tally` shows.
+fn see_turn<B: Board<Part>, M: ManagerName, R: Wait>(
     rt: &R,
     tally: &Tally,
-    session: &mut OwnSession<T, B>,
-)
-    ensures seat { B.seat session.new.board ≡ B.seat session.old.board }
-{
-    let number = session.id().number();
+    connection: &mut Connection<B, M>,
+) {
+    let number = connection.session.id().number();
     if number < 2 {
         tally.wait_for_holder(rt);
         return;
     }
     if let Some(before) = SessionId::new(number - 1) {
-        see_wait(rt, session, before);
+        see_wait(rt, connection, before);
     }
 }
 
-/// Has `session` join the queue in its turn, sleep until the wait is granted, and give the mode back, to the
-/// next one if that waits still.
-fn sleep_and_pass_on<T: PartTable, B: Board<T>, R: Abort + Wait>(
+/// Has `connection` join the queue in its turn, sleep until the wait is granted, and give the mode back, to
+/// the next one if that waits still.
+fn sleep_and_pass_on<B: Board<Part>, M: ManagerName, R: Abort + Wait>(
     rt: &R,
     tally: &Tally,
-    session: &mut OwnSession<T, B>,
-)
-    ensures seat { B.seat session.new.board ≡ B.seat session.old.board }
-{
-    see_turn(rt, tally, session);
-    let answer = session.acquire(rt, TABLE, tally.mode, OWNER);
+    connection: &mut Connection<B, M>,
+) {
+    see_turn(rt, tally, connection);
+    let answer = acquire(rt, connection, TABLE, tally.mode, OWNER);
     expect_granted(rt, answer, TABLE, tally.mode);
-    tally.wake(rt, session.id());
-    give_back(rt, session, tally.mode);
+    tally.wake(rt, connection.session.id());
+    give_back(rt, connection, tally.mode);
 }
 
-/// Takes the table first with `session`, and gives it back, which lets the others go, once all sleep, none of
-/// whom is woken.
-fn release_once_asleep<T: PartTable, B: Board<T>, R: Abort + Wait>(
+/// Takes the table first with `connection`, and gives it back, which lets the others go, once all sleep, none
+/// of whom is woken.
+fn release_once_asleep<B: Board<Part>, M: ManagerName, R: Abort + Wait>(
     rt: &R,
     tally: &Tally,
-    session: &mut OwnSession<T, B>,
-)
-    ensures seat { B.seat session.new.board ≡ B.seat session.old.board }
-{
-    take(rt, session, Mode::AccessExclusive);
+    connection: &mut Connection<B, M>,
+) {
+    take(rt, connection, Mode::AccessExclusive);
     tally.held.store(true, Ordering::SeqCst);
     if let Some(last) = SessionId::new(MANY as u16) {
-        see_wait(rt, session, last);
+        see_wait(rt, connection, last);
     }
     pause();
     tally.expect(rt, 0);
-    give_back(rt, session, Mode::AccessExclusive);
+    give_back(rt, connection, Mode::AccessExclusive);
 }
 
 impl Play for Tally {
-    /// Plays with `session` the part of the holder, or of one that sleeps.
-    fn play<T: PartTable, B: Board<T>, R: Abort + Clock + Wait>(
+    /// Plays with `connection` the part of the holder, or of one that sleeps.
+    fn play<B: Board<Part>, M: ManagerName, R: Abort + Clock + Wait>(
         &self,
         rt: &R,
-        session: &mut OwnSession<T, B>,
+        connection: &mut Connection<B, M>,
     ) {
-        if session.id().number() == 0 {
-            release_once_asleep(rt, self, session);
+        if connection.session.id().number() == 0 {
+            release_once_asleep(rt, self, connection);
         } else {
-            sleep_and_pass_on(rt, self, session);
+            sleep_and_pass_on(rt, self, connection);
         }
     }
 }
 
-/// Has one of `sessions` take the table and all others wait for it in `mode`. Where that is
+/// Has one of `connections` take the table and all others wait for it in `mode`. Where that is
 /// `AccessExclusiveLock` they are woken one by one, in the order of their queue, and where it is
 /// `AccessShareLock` all by one release.
-pub fn wake_sleepers<B: Board<Part> + Send, R: Abort + Clock + Threads + Wait + Sync>(
-    rt: &R,
-    sessions: &mut [OwnSession<Part, B>],
-    mode: Mode,
-)
-    ensures own { KeepManagers B.seat sessions.old sessions.new }
-{
+pub fn wake_sleepers<
+    B: Board<Part> + Send,
+    M: ManagerName + Send,
+    R: Abort + Clock + Threads + Wait + Sync,
+>(rt: &R, connections: &mut [Connection<B, M>], mode: Mode) {
     let tally = Tally {
         mode,
         held: AtomicBool::new(false),
         woken: AtomicU64::new(0),
     };
-    play_side_by_side(rt, &tally, sessions);
+    play_side_by_side(rt, &tally, connections);
     tally.expect(rt, MANY);
 }

@@ -1,19 +1,17 @@
 //! Two sessions in threads of their own, which begin each round at a gate, each after a pause of its own, and
 //! what each is answered. A race has to be won by each side, or it shows nothing.
 
-ghost use Rattle.std.specs.Prelude.{◌≡◌, IfSome, None};
-
 use super::answers::{Answer, expect_acted, expect_granted, expect_rows};
 use super::gates::{Gate, Wins};
 use super::pair::Pair;
-use super::tasks::{Task, act_side_by_side, race_side_by_side};
-use super::waits::{OWNER, TABLE, give_back, queue, take};
-use lock_manager::{Acquired, How, Mode, OwnSession, OwnWaiting, Part, Refusal, SessionId};
-use lock_table::PartTable;
-use shared_rule::Board;
+use super::sessions::{commit, list, try_fast};
+use super::tasks::{Task, act_side_by_side};
+use super::waits::{OWNER, TABLE, expect_gone, give_back, queue, take};
+use connections::{Connection, ManagerName, WaitingConnection};
+use lock_manager::{Acquired, Board, How, Mode, Part, Refusal, SessionId};
 use std::process::Abort;
 use std::sync::Wait;
-use std::thread::{Threads, join_mut};
+use std::thread::{Threads, join};
 
 /// What two sessions race for.
 #[derive(Clone, Copy)]
@@ -91,283 +89,210 @@ fn expect_one<R: Abort>(
 }
 
 /// Has one session of `pair` try `weak` by a slot, and the other one `strong`.
-fn try_weak_against_strong<B: Board<Part> + Send, R: Abort + Threads + Wait + Sync>(
-    rt: &R,
-    pair: Pair<Part, B>,
-    weak: Mode,
-    strong: Mode,
-    round: &Round<'_>,
-) -> Pair<Part, B>
-    ensures first { B.seat result.first.board ≡ B.seat pair.first.board }
-    ensures second { B.seat result.second.board ≡ B.seat pair.second.board }
-{
-    let (mut pair, ended) = race_side_by_side(
-        rt,
-        pair,
-        Task::TryFast(weak),
-        Task::Try(strong),
-        round.number,
-    );
-    let holder = pair.first.id();
-    expect_one(
-        rt,
-        ended.of_first,
-        ended.of_second,
-        holder,
-        weak,
-        round.wins,
-    );
-    pair.second.commit(rt);
-    try_beside_release(rt, pair, weak, strong, round)
+fn try_weak_against_strong<
+    B: Board<Part> + Send,
+    M: ManagerName + Send,
+    R: Abort + Threads + Wait + Sync,
+>(rt: &R, pair: &mut Pair<B, M>, weak: Mode, strong: Mode, round: &Round<'_>) {
+    let (tries_fast, tries) = (Task::TryFast(weak), Task::Try(strong));
+    let ended = act_side_by_side(rt, pair, tries_fast, tries, round.number);
+    let holder = pair.first.session.id();
+    let (weak_one, strong_one) = (ended.of_first, ended.of_second);
+    expect_one(rt, weak_one, strong_one, holder, weak, round.wins);
+    commit(rt, &mut pair.second);
+    commit(rt, &mut pair.first);
+    try_beside_release(rt, pair, weak, strong, round);
 }
 
 /// Has the first session of `pair` take `weak` by a slot, and give it back from there while the second one
 /// asks for `strong`.
-fn try_beside_release<B: Board<Part> + Send, R: Abort + Threads + Wait + Sync>(
-    rt: &R,
-    pair: Pair<Part, B>,
-    weak: Mode,
-    strong: Mode,
-    round: &Round<'_>,
-) -> Pair<Part, B>
-    ensures first { B.seat result.first.board ≡ B.seat pair.first.board }
-    ensures second { B.seat result.second.board ≡ B.seat pair.second.board }
-{
-    let mut pair = pair;
-    pair.first.commit(rt);
+fn try_beside_release<
+    B: Board<Part> + Send,
+    M: ManagerName + Send,
+    R: Abort + Threads + Wait + Sync,
+>(rt: &R, pair: &mut Pair<B, M>, weak: Mode, strong: Mode, round: &Round<'_>) {
     take_fast(rt, &mut pair.first, weak);
     let tries = Task::Try(strong);
-    let (mut pair, ended) = race_side_by_side(rt, pair, Task::Commit, tries, round.number);
-    let answer = ended.of_second;
+    let answer = act_side_by_side(rt, pair, Task::Commit, tries, round.number).of_second;
     if answer != Some(Ok(Acquired::Granted)) {
-        expect_in_the_way(rt, answer, pair.first.id(), weak);
+        expect_in_the_way(rt, answer, pair.first.session.id(), weak);
     }
-    pair.second.commit(rt);
-    pair
+    commit(rt, &mut pair.second);
 }
 
-/// Takes the weak `mode` by a slot with `session`.
-fn take_fast<T: PartTable, B: Board<T>, R: Abort>(
+/// Takes the weak `mode` by a slot with `connection`.
+fn take_fast<B: Board<Part>, M: ManagerName, R: Abort>(
     rt: &R,
-    session: &mut OwnSession<T, B>,
+    connection: &mut Connection<B, M>,
     mode: Mode,
-)
-    ensures seat { B.seat session.new.board ≡ B.seat session.old.board }
-{
-    let answer = session.try_fast(TABLE, mode, OWNER);
+) {
+    let answer = try_fast(connection, TABLE, mode, OWNER);
     expect_granted(rt, answer, TABLE, mode);
 }
 
 /// Has both sessions of `pair` take `weak`, and ask for `strong`.
-fn try_strong_over_weak<B: Board<Part> + Send, R: Abort + Threads + Wait + Sync>(
-    rt: &R,
-    pair: Pair<Part, B>,
-    weak: Mode,
-    strong: Mode,
-    round: &Round<'_>,
-) -> Pair<Part, B>
-    ensures first { B.seat result.first.board ≡ B.seat pair.first.board }
-    ensures second { B.seat result.second.board ≡ B.seat pair.second.board }
-{
-    let mut pair = pair;
+fn try_strong_over_weak<
+    B: Board<Part> + Send,
+    M: ManagerName + Send,
+    R: Abort + Threads + Wait + Sync,
+>(rt: &R, pair: &mut Pair<B, M>, weak: Mode, strong: Mode, round: &Round<'_>) {
     take_fast(rt, &mut pair.first, weak);
     take_fast(rt, &mut pair.second, weak);
-    let (mut pair, ended) = race_side_by_side(
-        rt,
-        pair,
-        Task::Try(strong),
-        Task::Try(strong),
-        round.number,
-    );
-    expect_in_the_way(rt, ended.of_first, pair.second.id(), weak);
-    expect_in_the_way(rt, ended.of_second, pair.first.id(), weak);
+    let (one, other) = (Task::Try(strong), Task::Try(strong));
+    let ended = act_side_by_side(rt, pair, one, other, round.number);
+    expect_in_the_way(rt, ended.of_first, pair.second.session.id(), weak);
+    expect_in_the_way(rt, ended.of_second, pair.first.session.id(), weak);
     round.wins.count(ended.is_first_ahead);
     give_back(rt, &mut pair.first, weak);
     give_back(rt, &mut pair.second, weak);
-    pair
 }
 
-/// Gives `mode` back with `session`, if it `was_granted`.
-fn give_back_if<T: PartTable, B: Board<T>, R: Abort + Wait>(
+/// Gives `mode` back with `connection`, if it `was_granted`.
+fn give_back_if<B: Board<Part>, M: ManagerName, R: Abort + Wait>(
     rt: &R,
-    session: &mut OwnSession<T, B>,
+    connection: &mut Connection<B, M>,
     mode: Mode,
     was_granted: bool,
-)
-    ensures seat { B.seat session.new.board ≡ B.seat session.old.board }
-{
+) {
     if was_granted {
-        give_back(rt, session, mode);
+        give_back(rt, connection, mode);
     }
 }
 
 /// Cancels `waiting`. Where it was granted `mode` is given back.
-fn cancel<T: PartTable, B: Board<T>, R: Abort + Wait>(
+fn cancel<B: Board<Part>, M: ManagerName, R: Abort + Wait>(
     rt: &R,
     round: &Round<'_>,
-    waiting: OwnWaiting<T, B>,
+    waiting: WaitingConnection<B, M>,
     mode: Mode,
-) -> OwnSession<T, B>
-    ensures seat { B.seat result.board ≡ B.seat waiting.board }
-{
+) -> Connection<B, M> {
     round.gate.pass(rt, round.number, 1);
-    let (mut session, answer) = waiting.cancel(rt).into_parts();
+    let (mut connection, answer) = waiting.cancel(rt).into_parts();
     round.wins.count(answer.is_ok());
-    give_back_if(rt, &mut session, mode, answer.is_ok());
-    session
+    give_back_if(rt, &mut connection, mode, answer.is_ok());
+    connection
 }
 
 /// Cancels `waiting`, which is lent.
-fn cancel_lent<T: PartTable, B: Board<T>, R: Abort + Wait>(
+fn cancel_lent<B: Board<Part>, M: ManagerName, R: Abort + Wait>(
     rt: &R,
     round: &Round<'_>,
-    waiting: &mut Option<OwnWaiting<T, B>>,
+    waiting: &mut Option<WaitingConnection<B, M>>,
     mode: Mode,
-) -> OwnSession<T, B>
-    ensures gone { waiting.new ≡ None }
-    ensures seat { IfSome waiting.old (λ waiting. B.seat result.board ≡ B.seat waiting.board) }
-{
+) -> Connection<B, M> {
     match waiting.take() {
         Some(waiting) => cancel(rt, round, waiting, mode),
         None => panic!(rt; "no wait"),
     }
 }
 
-/// Gives `mode` back with `session`.
-fn release<T: PartTable, B: Board<T>, R: Abort + Wait>(
+/// Gives `mode` back with `connection`.
+fn release<B: Board<Part>, M: ManagerName, R: Abort + Wait>(
     rt: &R,
     round: &Round<'_>,
-    session: &mut OwnSession<T, B>,
+    connection: &mut Connection<B, M>,
     mode: Mode,
-)
-    ensures seat { B.seat session.new.board ≡ B.seat session.old.board }
-{
+) {
     round.gate.pass(rt, round.number, 0);
-    give_back(rt, session, mode);
+    give_back(rt, connection, mode);
 }
 
-/// Shows that the wait is over: `waiting` is empty.
-pub fn end_wait<T: PartTable, B: Board<T>>(waiting: Option<OwnWaiting<T, B>>)
-    requires { waiting ≡ None }
-{
-    match waiting {
-        None => {}
-        Some(_) => unreachable!(),
-    }
+/// Ends the test where `connection` has the table.
+fn expect_none<B: Board<Part>, M: ManagerName, R: Abort>(rt: &R, connection: &Connection<B, M>) {
+    assert_eq!(rt; connection.session.held(TABLE).mask(), 0);
 }
 
-/// Ends the test where `session` has the table.
-fn expect_none<T: PartTable, B: Board<T>, R: Abort>(rt: &R, session: &OwnSession<T, B>) {
-    assert_eq!(rt; session.held(TABLE).mask(), 0);
-}
-
-/// Has the session that waits cancel its wait for the first of `modes` while `session` gives back the second
-/// one.
-fn cancel_on_loan<B: Board<Part> + Send, R: Abort + Threads + Wait + Sync>(
+/// Has the session that waits cancel its wait for the first of `modes` while `connection` gives back the
+/// second one.
+fn cancel_on_loan<B: Board<Part> + Send, M: ManagerName + Send, R: Abort + Threads + Wait + Sync>(
     rt: &R,
     round: &Round<'_>,
-    waiting: &mut Option<OwnWaiting<Part, B>>,
-    session: &mut OwnSession<Part, B>,
+    waiting: &mut Option<WaitingConnection<B, M>>,
+    connection: &mut Connection<B, M>,
     modes: &(Mode, Mode),
-) -> OwnSession<Part, B>
-    ensures gone { waiting.new ≡ None }
-    ensures seat { IfSome waiting.old (λ waiting. B.seat result.board ≡ B.seat waiting.board) }
-    ensures its_seat { B.seat session.new.board ≡ B.seat session.old.board }
-{
-    let (cancelled, ()) = join_mut(
+) -> Connection<B, M> {
+    let (cancelled, ()) = join(
         rt,
-        &mut || cancel_lent(rt, round, waiting, modes.0),
-        &mut || release(rt, round, session, modes.1),
+        || cancel_lent(rt, round, waiting, modes.0),
+        || release(rt, round, connection, modes.1),
     );
     cancelled
 }
 
 /// Has the second session of `pair` wait for `awaited`, which `held` of the first one is in the way of, and
 /// cancel as that is given back.
-fn cancel_as_released<B: Board<Part> + Send, R: Abort + Threads + Wait + Sync>(
-    rt: &R,
-    pair: Pair<Part, B>,
-    held: Mode,
-    awaited: Mode,
-    round: &Round<'_>,
-) -> Pair<Part, B>
-    ensures first { B.seat result.first.board ≡ B.seat pair.first.board }
-    ensures second { B.seat result.second.board ≡ B.seat pair.second.board }
-{
+fn cancel_as_released<
+    B: Board<Part> + Send,
+    M: ManagerName + Send,
+    R: Abort + Threads + Wait + Sync,
+>(rt: &R, pair: Pair<B, M>, held: Mode, awaited: Mode, round: &Round<'_>) -> Pair<B, M> {
     let Pair { mut first, second } = pair;
     take(rt, &mut first, held);
     let mut waiting = Some(queue(rt, second, awaited));
     let second = cancel_on_loan(rt, round, &mut waiting, &mut first, &(awaited, held));
-    end_wait(waiting);
+    expect_gone(rt, waiting);
     expect_none(rt, &first);
     expect_none(rt, &second);
     Pair { first, second }
 }
 
 /// Has the second session of `pair` wait, and the first one ask it to cancel as soon as it does.
-fn ask_before_sleep<B: Board<Part> + Send, R: Abort + Threads + Wait + Sync>(
+fn ask_before_sleep<B: Board<Part> + Send, M: ManagerName + Send, R: Abort + Threads + Wait + Sync>(
     rt: &R,
-    pair: Pair<Part, B>,
-) -> Pair<Part, B>
-    ensures first { B.seat result.first.board ≡ B.seat pair.first.board }
-    ensures second { B.seat result.second.board ≡ B.seat pair.second.board }
-{
-    let mut pair = pair;
-    let asks = Task::AskUntilHeard(pair.second.id());
+    pair: &mut Pair<B, M>,
+) {
+    let asks = Task::AskUntilHeard(pair.second.session.id());
     take(rt, &mut pair.first, Mode::AccessExclusive);
-    let (mut pair, _, answer) = act_side_by_side(rt, pair, asks, Task::Lock(Mode::AccessShare));
-    expect_acted(rt, answer, Err(Refusal::Cancelled));
+    let ended = act_side_by_side(rt, pair, asks, Task::Lock(Mode::AccessShare), 0);
+    expect_acted(rt, ended.of_second, Err(Refusal::Cancelled));
     give_back(rt, &mut pair.first, Mode::AccessExclusive);
-    pair
 }
 
 /// Plays one round of `race` with `pair`, after which both hold what they held before.
-fn race_once<B: Board<Part> + Send, R: Abort + Threads + Wait + Sync>(
+fn race_once<B: Board<Part> + Send, M: ManagerName + Send, R: Abort + Threads + Wait + Sync>(
     rt: &R,
-    pair: Pair<Part, B>,
+    mut pair: Pair<B, M>,
     race: Race,
     round: &Round<'_>,
-) -> Pair<Part, B>
-    ensures first { B.seat result.first.board ≡ B.seat pair.first.board }
-    ensures second { B.seat result.second.board ≡ B.seat pair.second.board }
-{
+) -> Pair<B, M> {
     match race {
         Race::WeakAgainstStrong(weak, strong) => {
-            try_weak_against_strong(rt, pair, weak, strong, round)
+            try_weak_against_strong(rt, &mut pair, weak, strong, round);
+            pair
         }
-        Race::StrongOverWeak(weak, strong) => try_strong_over_weak(rt, pair, weak, strong, round),
+        Race::StrongOverWeak(weak, strong) => {
+            try_strong_over_weak(rt, &mut pair, weak, strong, round);
+            pair
+        }
         Race::CancelAgainstRelease(held, awaited) => {
             cancel_as_released(rt, pair, held, awaited, round)
         }
-        Race::AskAgainstSleep => ask_before_sleep(rt, pair),
+        Race::AskAgainstSleep => {
+            ask_before_sleep(rt, &mut pair);
+            pair
+        }
     }
 }
 
-/// Sees with `session` that nothing is held or awaited, and no strong mode counted.
-pub fn see_nothing<T: PartTable, B: Board<T>, R: Abort + Wait>(
+/// Sees with `connection` that nothing is held or awaited, and no strong mode counted.
+pub fn see_nothing<B: Board<Part>, M: ManagerName, R: Abort + Wait>(
     rt: &R,
-    session: &mut OwnSession<T, B>,
-)
-    ensures seat { B.seat session.new.board ≡ B.seat session.old.board }
-{
-    let listing = session.list(rt).expect(rt, "a listing");
+    connection: &mut Connection<B, M>,
+) {
+    let listing = list(rt, connection).expect(rt, "a listing");
     expect_rows(rt, &listing, 0, 0);
-    assert_eq!(rt; session.strong_count(TABLE.strong_index()), 0);
+    assert_eq!(rt; connection.session.strong_count(TABLE.strong_index()), 0);
 }
 
 /// Plays `rounds` rounds of `race` with `pair`, at the end of which nothing is held, and each side has won.
-pub fn race_often<B: Board<Part> + Send, R: Abort + Threads + Wait + Sync + Print>(
-    rt: &R,
-    pair: Pair<Part, B>,
-    race: Race,
-    rounds: u32,
-) -> Pair<Part, B>
-    ensures first { B.seat result.first.board ≡ B.seat pair.first.board }
-    ensures second { B.seat result.second.board ≡ B.seat pair.second.board }
-{
+pub fn race_often<
+    B: Board<Part> + Send,
+    M: ManagerName + Send,
+    R: Abort + Threads + Wait + Sync + Print,
+>(rt: &R, pair: Pair<B, M>, race: Race, rounds: u32) -> Pair<B, M> {
     let mut pair = pair;
     let wins = Wins::none();
-    'rounds: for number in 0..rounds {
+    for number in 0..rounds {
         let round = Round {
             number,
             gate: Gate::new(),

@@ -1,19 +1,17 @@
 //! What a session does in a thread of its own, while another one does something in another thread.
 
-ghost use Rattle.std.specs.Prelude.{◌≡◌};
-
 use super::answers::Answer;
 use super::busy::{take_until_seen, try_until_busy};
 use super::gates::Gate;
 use super::pair::Pair;
+use super::sessions::{acquire, commit, try_fast, try_lock};
 use super::waits::{OWNER, TABLE, ask, ask_until_heard, give_back, see_wait};
-use lock_manager::{Asked, Mode, OwnSession, Part, SessionId};
-use lock_table::PartTable;
-use shared_rule::Board;
+use connections::{Connection, ManagerName};
+use lock_manager::{Asked, Board, Mode, Part, SessionId};
 use std::process::Abort;
 use std::sync::Wait;
 use std::sync::atomic::{AtomicBool, AtomicU64, Ordering};
-use std::thread::{Threads, join_mut};
+use std::thread::{Threads, join};
 
 /// What a session does with the table.
 #[derive(Clone, Copy)]
@@ -94,78 +92,71 @@ pub struct Ended {
     pub is_first_ahead: bool,
 }
 
-/// Does with `session` what the session on `side` is to do, once both sides have begun. If that is a request,
-/// answers what it was answered.
-fn act<T: PartTable, B: Board<T>, R: Abort + Wait>(
+/// Does with `connection` what the session on `side` is to do, once both sides have begun. If that is a
+/// request, answers what it was answered.
+fn act<B: Board<Part>, M: ManagerName, R: Abort + Wait>(
     rt: &R,
     shown: &Shown,
-    session: &mut OwnSession<T, B>,
+    connection: &mut Connection<B, M>,
     side: u32,
-) -> Option<Answer>
-    ensures seat { B.seat session.new.board ≡ B.seat session.old.board }
-{
+) -> Option<Answer> {
     shown.gate.pass(rt, shown.round, side);
-    let answer = do_task(rt, shown, session, shown.task(side));
+    let answer = do_task(rt, shown, connection, shown.task(side));
     shown.end(side);
     answer
 }
 
-/// Does `task` with `session`. If it is a request, answers what that was answered.
-fn do_task<T: PartTable, B: Board<T>, R: Abort + Wait>(
+/// Does `task` with `connection`. If it is a request, answers what that was answered.
+fn do_task<B: Board<Part>, M: ManagerName, R: Abort + Wait>(
     rt: &R,
     shown: &Shown,
-    session: &mut OwnSession<T, B>,
+    connection: &mut Connection<B, M>,
     task: Task,
-) -> Option<Answer>
-    ensures seat { B.seat session.new.board ≡ B.seat session.old.board }
-{
+) -> Option<Answer> {
     match task {
-        Task::TryFast(mode) => Some(session.try_fast(TABLE, mode, OWNER)),
-        Task::Try(mode) => Some(session.try_lock(rt, TABLE, mode, OWNER)),
+        Task::TryFast(mode) => Some(try_fast(connection, TABLE, mode, OWNER)),
+        Task::Try(mode) => Some(try_lock(rt, connection, TABLE, mode, OWNER)),
         Task::Commit => {
-            session.commit(rt);
+            commit(rt, connection);
             None
         }
-        Task::Lock(mode) => Some(session.acquire(rt, TABLE, mode, OWNER)),
+        Task::Lock(mode) => Some(acquire(rt, connection, TABLE, mode, OWNER)),
         Task::AskUntilHeard(number) => {
-            ask_until_heard(rt, session, number);
+            ask_until_heard(rt, connection, number);
             None
         }
         Task::AskOnceAwaited(number) => {
-            see_wait(rt, session, number);
-            ask(rt, session, number, Asked::Waiting);
+            see_wait(rt, connection, number);
+            ask(rt, connection, number, Asked::Waiting);
             None
         }
         Task::GiveBackOnceAwaited(number, mode) => {
-            see_wait(rt, session, number);
-            give_back(rt, session, mode);
+            see_wait(rt, connection, number);
+            give_back(rt, connection, mode);
             None
         }
         Task::TryUntilBusy => {
-            try_until_busy(rt, session, &shown.is_busy);
+            try_until_busy(rt, connection, &shown.is_busy);
             None
         }
         Task::TakeUntilSeen => {
-            take_until_seen(rt, session, &shown.is_busy);
+            take_until_seen(rt, connection, &shown.is_busy);
             None
         }
     }
 }
 
 /// Has `first` and `second`, which are lent, do their tasks, the one beside the other.
-fn act_on_loan<B: Board<Part> + Send, R: Abort + Threads + Wait + Sync>(
+fn act_on_loan<B: Board<Part> + Send, M: ManagerName + Send, R: Abort + Threads + Wait + Sync>(
     rt: &R,
     shown: &Shown,
-    first: &mut OwnSession<Part, B>,
-    second: &mut OwnSession<Part, B>,
-) -> Ended
-    ensures first { B.seat first.new.board ≡ B.seat first.old.board }
-    ensures second { B.seat second.new.board ≡ B.seat second.old.board }
-{
-    let (of_first, of_second) = join_mut(
+    first: &mut Connection<B, M>,
+    second: &mut Connection<B, M>,
+) -> Ended {
+    let (of_first, of_second) = join(
         rt,
-        &mut || act(rt, shown, first, 0),
-        &mut || act(rt, shown, second, 1),
+        || act(rt, shown, first, 0),
+        || act(rt, shown, second, 1),
     );
     Ended {
         of_first,
@@ -174,37 +165,13 @@ fn act_on_loan<B: Board<Part> + Send, R: Abort + Threads + Wait + Sync>(
     }
 }
 
-/// Has each of two sessions of `pair` do its task, the one beside the other, in round `round` of a race.
-pub fn race_side_by_side<B: Board<Part> + Send, R: Abort + Threads + Wait + Sync>(
-    rt: &R,
-    pair: Pair<Part, B>,
-    of_first: Task,
-    of_second: Task,
-    round: u32,
-) -> (Pair<Part, B>, Ended)
-    ensures first { B.seat result.0.first.board ≡ B.seat pair.first.board }
-    ensures second { B.seat result.0.second.board ≡ B.seat pair.second.board }
-{
-    let Pair {
-        mut first,
-        mut second,
-    } = pair;
+/// Has each of the two sessions of `pair` do its task, the one beside the other, in round `round` of a race.
+pub fn act_side_by_side<
+    B: Board<Part> + Send,
+    M: ManagerName + Send,
+    R: Abort + Threads + Wait + Sync,
+>(rt: &R, pair: &mut Pair<B, M>, of_first: Task, of_second: Task, round: u32) -> Ended {
+    let Pair { first, second } = pair;
     let shown = Shown::of(of_first, of_second, round);
-    let ended = act_on_loan(rt, &shown, &mut first, &mut second);
-    (Pair { first, second }, ended)
-}
-
-/// Has each of two sessions of `pair` do its task, the one beside the other, and answers what each was
-/// answered.
-pub fn act_side_by_side<B: Board<Part> + Send, R: Abort + Threads + Wait + Sync>(
-    rt: &R,
-    pair: Pair<Part, B>,
-    of_first: Task,
-    of_second: Task,
-) -> (Pair<Part, B>, Option<Answer>, Option<Answer>)
-    ensures first { B.seat result.0.first.board ≡ B.seat pair.first.board }
-    ensures second { B.seat result.0.second.board ≡ B.seat pair.second.board }
-{
-    let (pair, ended) = race_side_by_side(rt, pair, of_first, of_second, 0);
-    (pair, ended.of_first, ended.of_second)
+    act_on_loan(rt, &shown, first, second)
 }

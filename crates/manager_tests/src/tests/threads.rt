@@ -1,15 +1,14 @@
 //! Sessions in threads of their own, each of which sees by a table of the test that no two conflicting modes
 //! are held at a time.
 
-ghost use Rattle.std.specs.Prelude.{◌≡◌, ◌<◌, ◌≤◌};
-ghost use Rattle.lock_manager.specs.Crews.{KeepManagers};
+ghost use Rattle.std.specs.Prelude.{◌<◌, ◌≤◌};
 
-use super::answers::{expect_granted, expect_released};
+use super::answers::expect_granted;
 use super::conflicts::conflicts;
+use super::sessions::{give_tag_back, try_lock};
 use super::side_by_side::{Play, play_side_by_side};
-use lock_manager::{How, Mode, OwnSession, Owner, Part, Refusal, SessionId, Tag};
-use lock_table::PartTable;
-use shared_rule::Board;
+use connections::{Connection, ManagerName};
+use lock_manager::{Board, How, Mode, Owner, Part, Refusal, SessionId, Tag};
 use std::process::Abort;
 use std::sync::{Mutex, Wait};
 use std::thread;
@@ -119,57 +118,52 @@ fn expect_conflict<R: Abort>(rt: &R, refusal: Refusal, own: SessionId, place: us
 
 /// Asks for a mode on an object in round `round` of `plan`, and gives it back where it is granted. `holders`
 /// has who was granted what.
-fn ask<T: PartTable, B: Board<T>, R: Abort + Wait>(
+fn ask<B: Board<Part>, M: ManagerName, R: Abort + Wait>(
     rt: &R,
     holders: &Mutex<Holders>,
     plan: Plan,
-    session: &mut OwnSession<T, B>,
+    connection: &mut Connection<B, M>,
     round: u32,
-)
-    ensures seat { B.seat session.new.board ≡ B.seat session.old.board }
-{
+) {
     let place = (round % 8) as usize;
     let object = round % plan.objects;
     let tag = plan.tag(object);
     let mode = Mode::ALL[place];
-    let answer = session.try_lock(rt, tag, mode, Owner::Transaction);
+    let answer = try_lock(rt, connection, tag, mode, Owner::Transaction);
     if let Err(refusal) = answer {
-        expect_conflict(rt, refusal, session.id(), place);
+        expect_conflict(rt, refusal, connection.session.id(), place);
         return;
     }
     expect_granted(rt, answer, tag, mode);
     enter(rt, holders, object as usize, place);
     thread::yield_now();
     take_out(rt, holders, object as usize, place);
-    let released = session.unlock(rt, tag, mode, Owner::Transaction);
-    expect_released(rt, released, tag, mode);
+    give_tag_back(rt, connection, tag, mode, Owner::Transaction);
 }
 
 impl Play for Asks {
-    /// Asks with `session` for one mode after another, on one object after another, as the plan says.
-    fn play<T: PartTable, B: Board<T>, R: Abort + Clock + Wait>(
+    /// Asks with `connection` for one mode after another, on one object after another, as the plan says.
+    fn play<B: Board<Part>, M: ManagerName, R: Abort + Clock + Wait>(
         &self,
         rt: &R,
-        session: &mut OwnSession<T, B>,
+        connection: &mut Connection<B, M>,
     ) {
-        'rounds: for round in 0..self.plan.rounds {
-            ask(rt, &self.holders, self.plan, session, round);
+        for round in 0..self.plan.rounds {
+            ask(rt, &self.holders, self.plan, connection, round);
         }
     }
 }
 
-/// Has all of `sessions` do as `plan` says, and at the end nobody has anything.
-pub fn ask_all<B: Board<Part> + Send, R: Abort + Clock + Threads + Wait + Sync>(
-    rt: &R,
-    sessions: &mut [OwnSession<Part, B>],
-    plan: Plan,
-)
-    ensures own { KeepManagers B.seat sessions.old sessions.new }
-{
+/// Has all of `connections` do as `plan` says, and at the end nobody has anything.
+pub fn ask_all<
+    B: Board<Part> + Send,
+    M: ManagerName + Send,
+    R: Abort + Clock + Threads + Wait + Sync,
+>(rt: &R, connections: &mut [Connection<B, M>], plan: Plan) {
     let asks = Asks {
         plan,
         holders: Mutex::new([[0; 8]; 4]),
     };
-    play_side_by_side(rt, &asks, sessions);
+    play_side_by_side(rt, &asks, connections);
     assert!(rt; *asks.holders.lock(rt) == [[0; 8]; 4]);
 }

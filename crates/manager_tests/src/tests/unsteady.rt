@@ -3,13 +3,15 @@
 
 ghost use Rattle.std.specs.Prelude.{◌≡◌, ◌≤◌, All, IfOk};
 ghost use Rattle.shared_rule.specs.Opening.{AreNew};
+ghost use Rattle.lock_manager.specs.Crews.{AreOf};
 
-use super::crews::{Crew, act_all};
-use super::desk::append;
+use super::crews::{Crew, act};
+use super::desk::{append, lend, take_back};
 use super::gates::mixed;
 use super::pair::Pair;
 use super::races::{Race, race_often};
 use super::watched::{Watch, WatchedBoard};
+use connections::{Connection, ManagerName};
 use lock_manager::{OwnSession, Part};
 use lock_table::{PartTable, empty_parts};
 use modes_core::SessionId;
@@ -17,6 +19,7 @@ use shared_rule::{
     Board, Kept, SeatBoard, SeatOpener, SharedTable, SharedWords, TableSizes, in_shelves, open,
 };
 use std::alloc::Global;
+use std::marker::Brand;
 use std::process::Abort;
 use std::sync::Wait;
 use std::sync::atomic::{AtomicU64, Ordering};
@@ -180,33 +183,92 @@ fn close_all<'a, R: Wait>(rt: &R, opener: &mut SeatOpener<Part>, mut sessions: V
     sessions.destroy_empty();
 }
 
-/// Has as many sessions as `crew` has, but no more than 64, do what it does at a table of their own, on
-/// boards that pause.
-pub fn act_with_pauses<R: Abort + Clock + Threads + Wait + Sync + Print>(
-    rt: &R,
-    alloc: Global,
-    crew: Crew,
-) -> Result<(), Fail> {
-    let number = crew.sessions().min(64) as u16;
-    let (table, mut opener) = open_table(alloc, number)?;
-    let sessions = open_all(rt, alloc, &table.shared, &mut opener, number);
-    let sessions = act_all(rt, sessions, crew);
-    close_all(rt, &mut opener, sessions);
-    Ok(())
+/// What sessions do on boards that pause.
+#[derive(Clone, Copy)]
+pub enum Paused {
+    /// Two of them race, for this number of rounds.
+    Race(Race, u32),
+    /// As many as this crew has, but no more than 64, do what it does.
+    Crew(Crew),
 }
 
-/// Has two sessions play `rounds` rounds of `race` at a table of their own, on boards that pause.
-pub fn race_with_pauses<R: Abort + Threads + Wait + Sync + Print>(
+impl Paused {
+    /// How many sessions there are.
+    fn sessions(self) -> u16
+        ensures { result ≤ 64 }
+    {
+        match self {
+            Paused::Race(_, _) => 2,
+            Paused::Crew(crew) => crew.sessions().min(64) as u16,
+        }
+    }
+}
+
+/// Has the two sessions of `connections` play `rounds` rounds of `race`.
+fn race_two<B: Board<Part> + Send, M: ManagerName + Send, R: Abort + Threads + Wait + Sync + Print>(
     rt: &R,
-    alloc: Global,
+    connections: &mut Vec<Connection<B, M>>,
     race: Race,
     rounds: u32,
-) -> Result<(), Fail> {
-    let (table, mut opener) = open_table(alloc, 2)?;
-    let first = open_next(rt, alloc, &table.shared, &mut opener);
-    let second = open_next(rt, alloc, &table.shared, &mut opener);
+) {
+    let first = connections.pop().expect(rt, "a session");
+    let second = connections.pop().expect(rt, "a session");
     let Pair { first, second } = race_often(rt, Pair { first, second }, race, rounds);
-    close(rt, &mut opener, second);
-    close(rt, &mut opener, first);
+    append(rt, connections, second);
+    append(rt, connections, first);
+}
+
+/// Has `sessions`, of the manager that `M` names, whose opener is `_opener`, do what `paused` says.
+fn play_at<
+    B: Board<Part> + Send,
+    M: ManagerName + Send,
+    R: Abort + Clock + Threads + Wait + Sync + Print,
+>(
+    rt: &R,
+    alloc: Global,
+    _opener: &SeatOpener<Part>,
+    sessions: Vec<OwnSession<Part, B>>,
+    paused: Paused,
+) -> Vec<OwnSession<Part, B>>
+    requires own { AreOf B.seat M.manager sessions.items }
+    ensures own { AreOf B.seat M.manager result.items }
+{
+    let mut connections: Vec<Connection<B, M>> = Vec::new(alloc);
+    take_back(rt, &mut connections, sessions);
+    match paused {
+        Paused::Race(race, rounds) => race_two(rt, &mut connections, race, rounds),
+        Paused::Crew(crew) => act(rt, connections.as_mut_slice(), crew),
+    }
+    let sessions = lend(rt, alloc, &mut connections);
+    connections.destroy_empty();
+    sessions
+}
+
+/// Has `sessions`, all at the table of `opener`, do what `paused` says. This function picks the manager that
+/// the types of their connections name.
+fn play_over<B: Board<Part> + Send, R: Abort + Clock + Threads + Wait + Sync + Print>(
+    rt: &R,
+    alloc: Global,
+    opener: &SeatOpener<Part>,
+    sessions: Vec<OwnSession<Part, B>>,
+    paused: Paused,
+) -> Vec<OwnSession<Part, B>>
+    requires own { All (λ session. (B.seat session.board).table ≡ opener.now.table) sessions.items }
+    ensures own { All (λ session. (B.seat session.board).table ≡ opener.now.table) result.items }
+{
+    play_at::<B, Brand, R>(rt, alloc, opener, sessions, paused)
+}
+
+/// Has sessions do what `paused` says at a table of their own, on boards that pause.
+pub fn play_with_pauses<R: Abort + Clock + Threads + Wait + Sync + Print>(
+    rt: &R,
+    alloc: Global,
+    paused: Paused,
+) -> Result<(), Fail> {
+    let number = paused.sessions();
+    let (table, mut opener) = open_table(alloc, number)?;
+    let sessions = open_all(rt, alloc, &table.shared, &mut opener, number);
+    let sessions = play_over(rt, alloc, &opener, sessions, paused);
+    close_all(rt, &mut opener, sessions);
     Ok(())
 }

@@ -1,13 +1,11 @@
 //! Sessions that wait for one table: how a wait begins, is looked at, asked to cancel and seen by others.
 
-ghost use Rattle.std.specs.Prelude.{◌≡◌};
-
-use super::answers::{expect_answer, expect_granted, expect_released};
+use super::answers::{expect_answer, expect_asked};
+use super::sessions::{give_tag_back, list, take_tag};
+use connections::{Connection, ManagerName, WaitingConnection};
 use lock_manager::{
-    Asked, Mode, OwnSession, OwnWaiting, Owner, Polled, Refusal, SessionId, Started, TableRow, Tag,
+    Asked, Board, Mode, Owner, Part, Polled, Refusal, SessionId, Started, TableRow, Tag,
 };
-use lock_table::PartTable;
-use shared_rule::Board;
 use std::process::Abort;
 use std::sync::Wait;
 use std::thread;
@@ -19,52 +17,42 @@ pub const TABLE: Tag = Tag::Relation {
 
 pub const OWNER: Owner = Owner::Transaction;
 
-/// Takes the table in `mode` at once with `session`.
-pub fn take<T: PartTable, B: Board<T>, R: Abort + Wait>(
+/// Takes the table in `mode` at once with `connection`.
+pub fn take<B: Board<Part>, M: ManagerName, R: Abort + Wait>(
     rt: &R,
-    session: &mut OwnSession<T, B>,
+    connection: &mut Connection<B, M>,
     mode: Mode,
-)
-    ensures seat { B.seat session.new.board ≡ B.seat session.old.board }
-{
-    let answer = session.try_lock(rt, TABLE, mode, OWNER);
-    expect_granted(rt, answer, TABLE, mode);
+) {
+    take_tag(rt, connection, TABLE, mode, OWNER);
 }
 
-/// Gives `mode` on the table back with `session`.
-pub fn give_back<T: PartTable, B: Board<T>, R: Abort + Wait>(
+/// Gives `mode` on the table back with `connection`.
+pub fn give_back<B: Board<Part>, M: ManagerName, R: Abort + Wait>(
     rt: &R,
-    session: &mut OwnSession<T, B>,
+    connection: &mut Connection<B, M>,
     mode: Mode,
-)
-    ensures seat { B.seat session.new.board ≡ B.seat session.old.board }
-{
-    let answer = session.unlock(rt, TABLE, mode, OWNER);
-    expect_released(rt, answer, TABLE, mode);
+) {
+    give_tag_back(rt, connection, TABLE, mode, OWNER);
 }
 
-/// Begins to wait with `session` for `mode` on the table.
-pub fn queue<T: PartTable, B: Board<T>, R: Abort + Wait>(
+/// Begins to wait with `connection` for `mode` on the table.
+pub fn queue<B: Board<Part>, M: ManagerName, R: Abort + Wait>(
     rt: &R,
-    session: OwnSession<T, B>,
+    connection: Connection<B, M>,
     mode: Mode,
-) -> OwnWaiting<T, B>
-    ensures seat { B.seat result.board ≡ B.seat session.board }
-{
-    match session.start(rt, TABLE, mode, OWNER) {
+) -> WaitingConnection<B, M> {
+    match connection.start(rt, TABLE, mode, OWNER) {
         Started::Queued(waiting) => waiting,
         _ => panic!(rt; "{mode} is not queued"),
     }
 }
 
 /// Finds that `waiting` goes on, and whether another session asked to cancel it, as `is_asked` says.
-pub fn find_still<T: PartTable, B: Board<T>, R: Abort>(
+pub fn find_still<B: Board<Part>, M: ManagerName, R: Abort>(
     rt: &R,
-    waiting: OwnWaiting<T, B>,
+    waiting: WaitingConnection<B, M>,
     is_asked: bool,
-) -> OwnWaiting<T, B>
-    ensures seat { B.seat result.board ≡ B.seat waiting.board }
-{
+) -> WaitingConnection<B, M> {
     let (waiting, was_asked) = match waiting.poll() {
         Polled::Still(waiting) => (waiting, false),
         Polled::CancelAsked(waiting) => (waiting, true),
@@ -76,63 +64,57 @@ pub fn find_still<T: PartTable, B: Board<T>, R: Abort>(
 
 /// Ends the wait of `waiting` by one look, which must find it granted, and answers the session. Else the test
 /// ends.
-pub fn find_granted<T: PartTable, B: Board<T>, R: Abort>(
+pub fn find_granted<B: Board<Part>, M: ManagerName, R: Abort>(
     rt: &R,
-    waiting: OwnWaiting<T, B>,
-) -> OwnSession<T, B>
-    ensures seat { B.seat result.board ≡ B.seat waiting.board }
-{
+    waiting: WaitingConnection<B, M>,
+) -> Connection<B, M> {
     match waiting.poll() {
-        Polled::Granted(session) => session,
+        Polled::Granted(connection) => connection,
         _ => panic!(rt; "not granted"),
     }
 }
 
-/// Asks the session numbered `number` to cancel, with `session`. Ends the test where that isn't answered
+/// Asks the session numbered `number` to cancel, with `connection`. Ends the test where that isn't answered
 /// `asked`.
-pub fn ask<T: PartTable, B: Board<T>, R: Abort>(
+pub fn ask<B: Board<Part>, M: ManagerName, R: Abort>(
     rt: &R,
-    session: &mut OwnSession<T, B>,
+    connection: &mut Connection<B, M>,
     number: SessionId,
     asked: Asked,
-)
-    ensures seat { B.seat session.new.board ≡ B.seat session.old.board }
-{
-    assert!(rt; session.ask_cancel(number) == asked);
+) {
+    let answer = connection.session.ask_cancel(number);
+    expect_asked(rt, answer, asked);
 }
 
-/// Whether the session numbered `number` waits, which `session` asks to cancel then.
-fn is_heard<T: PartTable, B: Board<T>>(session: &mut OwnSession<T, B>, number: SessionId) -> bool
-    ensures seat { B.seat session.new.board ≡ B.seat session.old.board }
-{
-    session.ask_cancel(number) == Asked::Waiting
-}
-
-/// Asks the session numbered `number` to cancel, with `session`, until it is heard.
-pub fn ask_until_heard<T: PartTable, B: Board<T>, R: Wait>(
-    rt: &R,
-    session: &mut OwnSession<T, B>,
+/// Whether the session numbered `number` waits, which `connection` asks to cancel then.
+fn is_heard<B: Board<Part>, M: ManagerName>(
+    connection: &mut Connection<B, M>,
     number: SessionId,
-)
-    ensures seat { B.seat session.new.board ≡ B.seat session.old.board }
-{
+) -> bool {
+    connection.session.ask_cancel(number) == Asked::Waiting
+}
+
+/// Asks the session numbered `number` to cancel, with `connection`, until it is heard.
+pub fn ask_until_heard<B: Board<Part>, M: ManagerName, R: Wait>(
+    rt: &R,
+    connection: &mut Connection<B, M>,
+    number: SessionId,
+) {
     for _ in rt.forever() {
-        if is_heard(session, number) {
+        if is_heard(connection, number) {
             return;
         }
     }
 }
 
 /// Takes `waiting` out of the queue.
-pub fn leave<T: PartTable, B: Board<T>, R: Abort + Wait>(
+pub fn leave<B: Board<Part>, M: ManagerName, R: Abort + Wait>(
     rt: &R,
-    waiting: OwnWaiting<T, B>,
-) -> OwnSession<T, B>
-    ensures seat { B.seat result.board ≡ B.seat waiting.board }
-{
-    let (session, answer) = waiting.cancel(rt).into_parts();
+    waiting: WaitingConnection<B, M>,
+) -> Connection<B, M> {
+    let (connection, answer) = waiting.cancel(rt).into_parts();
     expect_answer(rt, answer, Err(Refusal::Cancelled));
-    session
+    connection
 }
 
 /// Whether the wait for the table of the session numbered `number` is among `rows`.
@@ -146,32 +128,39 @@ fn is_awaited(rows: &[TableRow], number: SessionId) -> bool {
     shown
 }
 
-/// Whether a listing by `session` shows the wait of the session numbered `number`.
-fn shows_wait<T: PartTable, B: Board<T>, R: Wait>(
+/// Whether a listing by `connection` shows the wait of the session numbered `number`.
+fn shows_wait<B: Board<Part>, M: ManagerName, R: Wait>(
     rt: &R,
-    session: &mut OwnSession<T, B>,
+    connection: &mut Connection<B, M>,
     number: SessionId,
-) -> bool
-    ensures seat { B.seat session.new.board ≡ B.seat session.old.board }
-{
-    match session.list(rt) {
+) -> bool {
+    match list(rt, connection) {
         Ok(listing) => is_awaited(listing.table.as_slice(), number),
         Err(_) => false,
     }
 }
 
-/// Lists with `session` until the wait of the session numbered `number` shows.
-pub fn see_wait<T: PartTable, B: Board<T>, R: Wait>(
+/// Lists with `connection` until the wait of the session numbered `number` shows.
+pub fn see_wait<B: Board<Part>, M: ManagerName, R: Wait>(
     rt: &R,
-    session: &mut OwnSession<T, B>,
+    connection: &mut Connection<B, M>,
     number: SessionId,
-)
-    ensures seat { B.seat session.new.board ≡ B.seat session.old.board }
-{
+) {
     for _ in rt.forever() {
-        if shows_wait(rt, session, number) {
+        if shows_wait(rt, connection, number) {
             return;
         }
         thread::yield_now();
+    }
+}
+
+/// Ends the test where the wait that was lent is still there.
+pub fn expect_gone<B: Board<Part>, M: ManagerName, R: Abort>(
+    rt: &R,
+    waiting: Option<WaitingConnection<B, M>>,
+) {
+    match waiting {
+        None => {}
+        Some(_) => panic!(rt; "a wait that is lent still"),
     }
 }

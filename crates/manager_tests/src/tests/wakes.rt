@@ -1,21 +1,17 @@
 //! Sessions that sleep until another one lets them go or asks them to cancel, and wakes them.
 
-ghost use Rattle.std.specs.Prelude.{◌≡◌, IfSome, None};
-ghost use Rattle.lock_manager.specs.Crews.{SeatsAre};
-
 use super::answers::{Answer, expect_answer};
 use super::audits::close_counted;
-use super::desk::{append, open};
-use super::races::end_wait;
-use super::waits::{OWNER, TABLE, ask, give_back, leave, queue, see_wait, take};
-use lock_manager::{Acquired, Asked, Desk, Mode, OwnSession, OwnWaiting, Part, Refusal, SessionId};
-use lock_table::PartTable;
-use shared_rule::Board;
+use super::desk::{DeskOf, append};
+use super::sessions::acquire;
+use super::waits::{OWNER, TABLE, ask, expect_gone, give_back, leave, queue, see_wait, take};
+use connections::{Connection, ManagerName, WaitingConnection};
+use lock_manager::{Acquired, Asked, Board, Desk, Mode, OwnSession, Part, Refusal, SessionId};
 use std::alloc::Global;
 use std::process::Abort;
 use std::sync::Wait;
 use std::thread;
-use std::thread::{Threads, join_mut};
+use std::thread::{Threads, join};
 
 /// How often a processor is left to others in a pause.
 const PAUSE: u32 = 20_000;
@@ -27,43 +23,35 @@ pub fn pause() {
     }
 }
 
-/// Sees with `session` that the one numbered `number` waits, and gives it the time to sleep.
-fn see_asleep<T: PartTable, B: Board<T>, R: Wait>(
+/// Sees with `connection` that the one numbered `number` waits, and gives it the time to sleep.
+fn see_asleep<B: Board<Part>, M: ManagerName, R: Wait>(
     rt: &R,
-    session: &mut OwnSession<T, B>,
+    connection: &mut Connection<B, M>,
     number: SessionId,
-)
-    ensures seat { B.seat session.new.board ≡ B.seat session.old.board }
-{
-    see_wait(rt, session, number);
+) {
+    see_wait(rt, connection, number);
     pause();
 }
 
-/// Asks for the table with `session`, and sleeps until the wait is over. Ends the test where that isn't
+/// Asks for the table with `connection`, and sleeps until the wait is over. Ends the test where that isn't
 /// answered `expected`.
-fn sleep_until<T: PartTable, B: Board<T>, R: Abort + Wait>(
+fn sleep_until<B: Board<Part>, M: ManagerName, R: Abort + Wait>(
     rt: &R,
-    session: &mut OwnSession<T, B>,
+    connection: &mut Connection<B, M>,
     expected: Answer,
-)
-    ensures seat { B.seat session.new.board ≡ B.seat session.old.board }
-{
-    let answer = session.acquire(rt, TABLE, Mode::AccessShare, OWNER);
+) {
+    let answer = acquire(rt, connection, TABLE, Mode::AccessShare, OWNER);
     expect_answer(rt, answer, expected);
 }
 
 /// Takes the wait `ahead`, which is lent, out of the queue, once the session numbered `number` sleeps after
 /// it in the queue.
-fn leave_once_asleep<T: PartTable, B: Board<T>, R: Abort + Wait>(
+fn leave_once_asleep<B: Board<Part>, M: ManagerName, R: Abort + Wait>(
     rt: &R,
-    holder: &mut OwnSession<T, B>,
-    ahead: &mut Option<OwnWaiting<T, B>>,
+    holder: &mut Connection<B, M>,
+    ahead: &mut Option<WaitingConnection<B, M>>,
     number: SessionId,
-) -> OwnSession<T, B>
-    ensures seat { B.seat holder.new.board ≡ B.seat holder.old.board }
-    ensures gone { ahead.new ≡ None }
-    ensures its_seat { IfSome ahead.old (λ waiting. B.seat result.board ≡ B.seat waiting.board) }
-{
+) -> Connection<B, M> {
     see_asleep(rt, holder, number);
     match ahead.take() {
         Some(waiting) => leave(rt, waiting),
@@ -73,22 +61,21 @@ fn leave_once_asleep<T: PartTable, B: Board<T>, R: Abort + Wait>(
 
 /// Has the session `ahead` in the queue leave it, and the one `behind` it, who sleeps in a thread of its own,
 /// be granted.
-fn leave_side_by_side<B: Board<Part> + Send, R: Abort + Threads + Wait + Sync>(
+fn leave_side_by_side<
+    B: Board<Part> + Send,
+    M: ManagerName + Send,
+    R: Abort + Threads + Wait + Sync,
+>(
     rt: &R,
-    holder: &mut OwnSession<Part, B>,
-    ahead: &mut Option<OwnWaiting<Part, B>>,
-    behind: &mut OwnSession<Part, B>,
+    holder: &mut Connection<B, M>,
+    ahead: &mut Option<WaitingConnection<B, M>>,
+    behind: &mut Connection<B, M>,
     number: &SessionId,
-) -> OwnSession<Part, B>
-    ensures holder { B.seat holder.new.board ≡ B.seat holder.old.board }
-    ensures gone { ahead.new ≡ None }
-    ensures ahead { IfSome ahead.old (λ waiting. B.seat result.board ≡ B.seat waiting.board) }
-    ensures behind { B.seat behind.new.board ≡ B.seat behind.old.board }
-{
-    let (left, ()) = join_mut(
+) -> Connection<B, M> {
+    let (left, ()) = join(
         rt,
-        &mut || leave_once_asleep(rt, holder, ahead, *number),
-        &mut || sleep_until(rt, behind, Ok(Acquired::Granted)),
+        || leave_once_asleep(rt, holder, ahead, *number),
+        || sleep_until(rt, behind, Ok(Acquired::Granted)),
     );
     left
 }
@@ -99,54 +86,46 @@ fn leave_side_by_side<B: Board<Part> + Send, R: Abort + Threads + Wait + Sync>(
 pub fn let_go_by_a_cancel<
     B: Board<Part> + Send,
     D: Desk<OwnSession<Part, B>>,
+    M: ManagerName + Send,
     R: Abort + Threads + Wait + Sync,
->(rt: &R, alloc: Global, desk: &mut D)
-    requires seats { SeatsAre B.seat D.seat }
-    ensures manager { D.manager desk.new ≡ D.manager desk.old }
-    ensures live { D.live desk.new ≡ D.live desk.old }
-{
-    let mut holder = open(rt, desk);
+>(rt: &R, alloc: Global, desk: &mut DeskOf<B, D, M>) {
+    let mut holder = desk.open(rt);
     take(rt, &mut holder, Mode::AccessShare);
-    let mut ahead = Some(queue(rt, open(rt, desk), Mode::AccessExclusive));
-    let mut behind = open(rt, desk);
-    let number = behind.id();
+    let mut ahead = Some(queue(rt, desk.open(rt), Mode::AccessExclusive));
+    let mut behind = desk.open(rt);
+    let number = behind.session.id();
     let left = leave_side_by_side(rt, &mut holder, &mut ahead, &mut behind, &number);
-    end_wait(ahead);
+    expect_gone(rt, ahead);
     give_back(rt, &mut behind, Mode::AccessShare);
     give_back(rt, &mut holder, Mode::AccessShare);
-    let mut sessions = Vec::new(alloc);
-    append(rt, &mut sessions, holder);
-    append(rt, &mut sessions, left);
-    append(rt, &mut sessions, behind);
-    close_counted(rt, desk, sessions);
+    let mut connections = Vec::new(alloc);
+    append(rt, &mut connections, holder);
+    append(rt, &mut connections, left);
+    append(rt, &mut connections, behind);
+    close_counted(rt, alloc, desk, connections);
 }
 
-/// Asks the session numbered `number`, with `session`, to cancel once it sleeps.
-fn ask_once_asleep<T: PartTable, B: Board<T>, R: Abort + Wait>(
+/// Asks the session numbered `number`, with `connection`, to cancel once it sleeps.
+fn ask_once_asleep<B: Board<Part>, M: ManagerName, R: Abort + Wait>(
     rt: &R,
-    session: &mut OwnSession<T, B>,
+    connection: &mut Connection<B, M>,
     number: SessionId,
-)
-    ensures seat { B.seat session.new.board ≡ B.seat session.old.board }
-{
-    see_asleep(rt, session, number);
-    ask(rt, session, number, Asked::Waiting);
+) {
+    see_asleep(rt, connection, number);
+    ask(rt, connection, number, Asked::Waiting);
 }
 
 /// Has `holder` ask `sleeper`, who sleeps in a thread of its own, to cancel, and so its wait is over.
-fn ask_side_by_side<B: Board<Part> + Send, R: Abort + Threads + Wait + Sync>(
+fn ask_side_by_side<B: Board<Part> + Send, M: ManagerName + Send, R: Abort + Threads + Wait + Sync>(
     rt: &R,
-    holder: &mut OwnSession<Part, B>,
-    sleeper: &mut OwnSession<Part, B>,
+    holder: &mut Connection<B, M>,
+    sleeper: &mut Connection<B, M>,
     number: &SessionId,
-)
-    ensures holder { B.seat holder.new.board ≡ B.seat holder.old.board }
-    ensures sleeper { B.seat sleeper.new.board ≡ B.seat sleeper.old.board }
-{
-    join_mut(
+) {
+    join(
         rt,
-        &mut || ask_once_asleep(rt, holder, *number),
-        &mut || sleep_until(rt, sleeper, Err(Refusal::Cancelled)),
+        || ask_once_asleep(rt, holder, *number),
+        || sleep_until(rt, sleeper, Err(Refusal::Cancelled)),
     );
 }
 
@@ -154,20 +133,17 @@ fn ask_side_by_side<B: Board<Part> + Send, R: Abort + Threads + Wait + Sync>(
 pub fn woken_as_asked<
     B: Board<Part> + Send,
     D: Desk<OwnSession<Part, B>>,
+    M: ManagerName + Send,
     R: Abort + Threads + Wait + Sync,
->(rt: &R, alloc: Global, desk: &mut D)
-    requires seats { SeatsAre B.seat D.seat }
-    ensures manager { D.manager desk.new ≡ D.manager desk.old }
-    ensures live { D.live desk.new ≡ D.live desk.old }
-{
-    let mut holder = open(rt, desk);
+>(rt: &R, alloc: Global, desk: &mut DeskOf<B, D, M>) {
+    let mut holder = desk.open(rt);
     take(rt, &mut holder, Mode::AccessExclusive);
-    let mut sleeper = open(rt, desk);
-    let number = sleeper.id();
+    let mut sleeper = desk.open(rt);
+    let number = sleeper.session.id();
     ask_side_by_side(rt, &mut holder, &mut sleeper, &number);
     give_back(rt, &mut holder, Mode::AccessExclusive);
-    let mut sessions = Vec::new(alloc);
-    append(rt, &mut sessions, holder);
-    append(rt, &mut sessions, sleeper);
-    close_counted(rt, desk, sessions);
+    let mut connections = Vec::new(alloc);
+    append(rt, &mut connections, holder);
+    append(rt, &mut connections, sleeper);
+    close_counted(rt, alloc, desk, connections);
 }

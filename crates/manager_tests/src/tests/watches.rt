@@ -2,14 +2,13 @@
 //! and a hold that was there all the while has a row. Strong requests move holds from slots to the table
 //! meanwhile.
 
-ghost use Rattle.std.specs.Prelude.{◌≡◌, ◌<◌};
-ghost use Rattle.lock_manager.specs.Crews.{KeepManagers};
+ghost use Rattle.std.specs.Prelude.{◌<◌};
 
-use super::answers::{expect_granted, expect_released};
+use super::answers::expect_granted;
+use super::sessions::{acquire, give_tag_back, list, try_lock};
 use super::side_by_side::{Play, play_side_by_side};
-use lock_manager::{Listing, Mode, OwnSession, Owner, Part, SessionId, Tag};
-use lock_table::PartTable;
-use shared_rule::Board;
+use connections::{Connection, ManagerName};
+use lock_manager::{Board, Listing, Mode, Owner, Part, SessionId, Tag};
 use std::process::Abort;
 use std::sync::Wait;
 use std::sync::atomic::{AtomicBool, AtomicU64, Ordering};
@@ -78,57 +77,51 @@ fn relation(place: usize) -> Tag
     Tag::relation(5, 20_000 | (place as u32))
 }
 
-/// Asks with `session` for the strongest mode on the relation of the session at `next`, so that its hold is
-/// moved to the table, and gives back what it got.
-fn disturb<T: PartTable, B: Board<T>, R: Abort + Wait>(
+/// Asks with `connection` for the strongest mode on the relation of the session at `next`, so that its hold
+/// is moved to the table, and gives back what it got.
+fn disturb<B: Board<Part>, M: ManagerName, R: Abort + Wait>(
     rt: &R,
-    session: &mut OwnSession<T, B>,
+    connection: &mut Connection<B, M>,
     next: usize,
 )
     requires next { next < 4 }
-    ensures seat { B.seat session.new.board ≡ B.seat session.old.board }
 {
     let tag = relation(next);
     let mode = Mode::AccessExclusive;
-    if session.try_lock(rt, tag, mode, Owner::Transaction).is_ok() {
-        let released = session.unlock(rt, tag, mode, Owner::Transaction);
-        expect_released(rt, released, tag, mode);
+    if try_lock(rt, connection, tag, mode, Owner::Transaction).is_ok() {
+        give_tag_back(rt, connection, tag, mode, Owner::Transaction);
     }
 }
 
-/// Disturbs the session at `next` with `session`, over and over.
-fn disturb_often<T: PartTable, B: Board<T>, R: Abort + Wait>(
+/// Disturbs the session at `next` with `connection`, over and over.
+fn disturb_often<B: Board<Part>, M: ManagerName, R: Abort + Wait>(
     rt: &R,
-    session: &mut OwnSession<T, B>,
+    connection: &mut Connection<B, M>,
     next: usize,
 )
     requires next { next < 4 }
-    ensures seat { B.seat session.new.board ≡ B.seat session.old.board }
 {
-    'disturbances: for _ in 0..DISTURBANCES {
-        disturb(rt, session, next);
+    for _ in 0..DISTURBANCES {
+        disturb(rt, connection, next);
     }
 }
 
-/// Holds the relation of `session` for a while, if nobody is in the way, and disturbs the next session
+/// Holds the relation of `connection` for a while, if nobody is in the way, and disturbs the next session
 /// meanwhile.
-fn hold_once<T: PartTable, B: Board<T>, R: Abort + Wait>(
+fn hold_once<B: Board<Part>, M: ManagerName, R: Abort + Wait>(
     rt: &R,
     words: &Words,
-    session: &mut OwnSession<T, B>,
-)
-    ensures seat { B.seat session.new.board ≡ B.seat session.old.board }
-{
-    let place = place_of(session.id());
+    connection: &mut Connection<B, M>,
+) {
+    let place = place_of(connection.session.id());
     let tag = relation(place);
     let mode = Mode::AccessShare;
     words.may_hold[place].fetch_add(1, Ordering::SeqCst);
-    if session.try_lock(rt, tag, mode, Owner::Transaction).is_ok() {
+    if try_lock(rt, connection, tag, mode, Owner::Transaction).is_ok() {
         words.holds[place].fetch_add(1, Ordering::SeqCst);
-        disturb_often(rt, session, (place + 1) % 4);
+        disturb_often(rt, connection, (place + 1) % 4);
         words.holds[place].fetch_add(1, Ordering::SeqCst);
-        let released = session.unlock(rt, tag, mode, Owner::Transaction);
-        expect_released(rt, released, tag, mode);
+        give_tag_back(rt, connection, tag, mode, Owner::Transaction);
     }
     words.may_hold[place].fetch_add(1, Ordering::SeqCst);
 }
@@ -178,17 +171,15 @@ fn look(words: &[AtomicU64; 4]) -> [u64; 4] {
     ]
 }
 
-/// Lists once with `session`, and checks the rows by what `words` showed before and after.
-fn list_once<T: PartTable, B: Board<T>, R: Abort + Wait>(
+/// Lists once with `connection`, and checks the rows by what `words` showed before and after.
+fn list_once<B: Board<Part>, M: ManagerName, R: Abort + Wait>(
     rt: &R,
     words: &Words,
-    session: &mut OwnSession<T, B>,
-)
-    ensures seat { B.seat session.new.board ≡ B.seat session.old.board }
-{
+    connection: &mut Connection<B, M>,
+) {
     let may_hold = look(&words.may_hold);
     let holds = look(&words.holds);
-    let listing = session.list(rt).expect(rt, "a listing");
+    let listing = list(rt, connection).expect(rt, "a listing");
     let held = look(&words.holds);
     let might_hold = look(&words.may_hold);
     for place in 1..4usize {
@@ -200,65 +191,59 @@ fn list_once<T: PartTable, B: Board<T>, R: Abort + Wait>(
     assert!(rt; own == 1 || own == 2, "{own} rows of the own hold");
 }
 
-/// Has `session`, the first one, have its relation all the while, and list over and over.
-fn list_often<T: PartTable, B: Board<T>, R: Abort + Wait>(
+/// Has `connection`, the first one, have its relation all the while, and list over and over.
+fn list_often<B: Board<Part>, M: ManagerName, R: Abort + Wait>(
     rt: &R,
     words: &Words,
-    session: &mut OwnSession<T, B>,
-)
-    ensures seat { B.seat session.new.board ≡ B.seat session.old.board }
-{
-    'listings: for _ in 0..LISTINGS {
-        list_once(rt, words, session);
+    connection: &mut Connection<B, M>,
+) {
+    for _ in 0..LISTINGS {
+        list_once(rt, words, connection);
     }
     words.is_over.store(true, Ordering::SeqCst);
 }
 
-/// Has `session` hold its own relation over and over, until the listings are over.
-fn hold_often<T: PartTable, B: Board<T>, R: Abort + Wait>(
+/// Has `connection` hold its own relation over and over, until the listings are over.
+fn hold_often<B: Board<Part>, M: ManagerName, R: Abort + Wait>(
     rt: &R,
     words: &Words,
-    session: &mut OwnSession<T, B>,
-)
-    ensures seat { B.seat session.new.board ≡ B.seat session.old.board }
-{
-    'rounds: for _ in rt.forever() {
+    connection: &mut Connection<B, M>,
+) {
+    for _ in rt.forever() {
         if words.is_over.load(Ordering::SeqCst) {
             return;
         }
-        hold_once(rt, words, session);
+        hold_once(rt, words, connection);
     }
 }
 
 impl Play for Words {
-    /// Has `session`, where it is the first one, list while it has its relation, and any other hold its
+    /// Has `connection`, where it is the first one, list while it has its relation, and any other hold its
     /// relation over and over.
-    fn play<T: PartTable, B: Board<T>, R: Abort + Clock + Wait>(
+    fn play<B: Board<Part>, M: ManagerName, R: Abort + Clock + Wait>(
         &self,
         rt: &R,
-        session: &mut OwnSession<T, B>,
+        connection: &mut Connection<B, M>,
     ) {
-        if place_of(session.id()) != 0 {
-            hold_often(rt, self, session);
+        if place_of(connection.session.id()) != 0 {
+            hold_often(rt, self, connection);
             return;
         }
         let tag = relation(0);
         let mode = Mode::AccessShare;
-        let answer = session.acquire(rt, tag, mode, Owner::Session);
+        let answer = acquire(rt, connection, tag, mode, Owner::Session);
         expect_granted(rt, answer, tag, mode);
-        list_often(rt, self, session);
-        let released = session.unlock(rt, tag, mode, Owner::Session);
-        expect_released(rt, released, tag, mode);
+        list_often(rt, self, connection);
+        give_tag_back(rt, connection, tag, mode, Owner::Session);
     }
 }
 
-/// Has one of `sessions` list while three others lock and unlock.
-pub fn list_beside<B: Board<Part> + Send, R: Abort + Clock + Threads + Wait + Sync>(
-    rt: &R,
-    sessions: &mut [OwnSession<Part, B>],
-)
-    ensures own { KeepManagers B.seat sessions.old sessions.new }
-{
+/// Has one of `connections` list while three others lock and unlock.
+pub fn list_beside<
+    B: Board<Part> + Send,
+    M: ManagerName + Send,
+    R: Abort + Clock + Threads + Wait + Sync,
+>(rt: &R, connections: &mut [Connection<B, M>]) {
     let words = Words::new();
-    play_side_by_side(rt, &words, sessions);
+    play_side_by_side(rt, &words, connections);
 }

@@ -1,5 +1,0 @@
-use Rattle.std.proofs.Common.{◌≡◌}
-use Rattle.manager_tests.proofs.tests.busy.take_until_seen.Given as goal
-
-abbrev pub invariant-loop : goal.invariant-loop
-invariant-loop g l = g.B.Board.seat l.session.board ≡ g.B.Board.seat l.fn.session.board

@@ -1,8 +1,0 @@
-use Rattle.std.proofs.Common.{◌≡◌}
-use Rattle.manager_tests.proofs.tests.memory.move_often.Given as goal
-
-abbrev pub invariant-transfers : goal.invariant-transfers
-invariant-transfers g l = record {
-  first : g.B.Board.seat l.pair.first.board ≡ g.B.Board.seat l.fn.pair.first.board;
-  second : g.B.Board.seat l.pair.second.board ≡ g.B.Board.seat l.fn.pair.second.board;
-}

@@ -1,5 +1,0 @@
-use Rattle.std.proofs.Common.{◌≡◌}
-use Rattle.manager_tests.proofs.tests.watches.disturb_often.Given as goal
-
-abbrev pub invariant-disturbances : goal.invariant-disturbances
-invariant-disturbances g l = g.B.Board.seat l.session.board ≡ g.B.Board.seat l.fn.session.board
