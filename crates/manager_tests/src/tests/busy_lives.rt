@@ -4,7 +4,7 @@
 use super::answers::{Answer, expect_asked};
 use super::crowds::{Watch, guard};
 use super::desk::{DeskOf, Lending};
-use super::gates::Wins;
+use super::gates::{Gate, Wins};
 use super::sessions::{commit, list, try_lock};
 use super::waits::{OWNER, TABLE, find_still, give_back, leave, queue, take};
 use connections::{Connection, ManagerName};
@@ -36,6 +36,8 @@ const FIRST: u32 = 20_000;
 /// What the threads show each other.
 #[derive(Drop)]
 struct Shown {
+    /// Where the three threads begin.
+    start: Gate,
     /// Which connection comes, or is there. What earlier connections held is released.
     life: AtomicU32,
     /// How often a strong mode met what a connection held, and how often nothing.
@@ -188,6 +190,7 @@ fn serve<B: Board<Part>, D: Desk<OwnSession<Part, B>>, M: ManagerName, R: Abort 
     lives: u32,
 ) {
     take(rt, asker, Mode::AccessExclusive);
+    shown.start.come(rt, 3);
     for life in 0..lives {
         live_once(rt, shown, desk, lending, asker, life);
     }
@@ -202,6 +205,7 @@ fn list_often<B: Board<Part>, M: ManagerName, R: Abort + Wait>(
     shown: &Shown,
     connection: &mut Connection<B, M>,
 ) {
+    shown.start.come(rt, 3);
     for _ in rt.forever() {
         if shown.is_over() {
             return;
@@ -220,6 +224,7 @@ fn disturb_often<B: Board<Part>, M: ManagerName, R: Abort + Wait>(
     shown: &Shown,
     connection: &mut Connection<B, M>,
 ) {
+    shown.start.come(rt, 3);
     for _ in rt.forever() {
         if shown.is_over() {
             return;
@@ -295,6 +300,7 @@ pub fn come_and_go_beside<
     R: Abort + Clock + Threads + Wait + Sync + Print,
 >(rt: &R, alloc: Global, desk: &mut DeskOf<B, D, M>, lives: u32) {
     let shown = Shown {
+        start: Gate::new(),
         life: AtomicU32::new(0),
         wins: Wins::none(),
         watch: Watch::new(),
