@@ -24,7 +24,7 @@ fn expect_life<R: Abort>(rt: &R, lent: SessionLife, number: u32, life: u32) {
 }
 
 /// Has `lending` lend a session of `desk`, which is the one numbered `number`, in the life numbered `life`.
-/// It takes an object of its own.
+/// The session takes an object of its own number.
 fn lend_one<B: Board<Part>, D: Desk<OwnSession<Part, B>>, M: ManagerName, R: Abort + Wait>(
     rt: &R,
     desk: &mut DeskOf<B, D, M>,
