@@ -1,4 +1,3 @@
-use Rattle.std.proofs.Common.{sym}
 use Rattle.scenario.proofs.driver.drive_reusing.Goals as goal
 
 pub end-requires-clause-free : goal.end-requires-clause-free
