@@ -1,6 +1,6 @@
 //! What a call does to the records of one object, whose lock record stands at a known place.
 
-ghost use Rattle.std.specs.Prelude.{◌≡◌, ◌<◌, ◌≤◌, ◌+◌, [], false, true, OnOk, IfSome, IfNone, is_some, count_by, vec_capacity};
+ghost use Rattle.std.specs.Prelude.{◌≡◌, ◌<◌, ◌≤◌, ◌+◌, [], false, true, Some, OnOk, IfSome, IfNone, is_some, count_by, option_map, vec_capacity};
 ghost use Rattle.std.specs.Option.{ForSome, ForNone};
 ghost use Rattle.modes_core.specs.declared.modes.Mode.{Mode};
 ghost use Rattle.slab.specs.Slab.{slab_len, HasRoomFor};
@@ -10,7 +10,7 @@ ghost use Rattle.lock_records.specs.Tally.{counts_in, most_tallied, one_more, on
 ghost use Rattle.lock_records.specs.Counting.{awaited_of};
 ghost use Rattle.lock_records.specs.Holders.{holds_in, AreHolders, SetsHold};
 ghost use Rattle.lock_records.specs.Queues.{queue_on, waiting_in, IsQueueAt, HasRoomInQueue, HasSameQueues};
-ghost use Rattle.lock_records.specs.Locks.{IsLockAt, IsRelocked};
+ghost use Rattle.lock_records.specs.Locks.{IsLockAt, IsRelocked, lock_at};
 ghost use Rattle.lock_records.specs.Objects.{IsHeldLock, CountsWaitsAt, HasRoom};
 
 use crate::holders::{HolderRecord, lower_holder, lowest_holder, lowest_mode, raise_holder};
@@ -242,6 +242,7 @@ pub(crate) fn raise_awaited(
     ensures lock { (r : IsRelocked locks.old.slots locks.new.slots tag.now place)
         × (r.is.lock.holders ≡ r.was.lock.holders) × (r.is.lock.granted ≡ r.was.lock.granted)
         × (counts_in r.is.lock.awaited ≡ one_more (counts_in r.was.lock.awaited) mode) }
+    ensures noted { option_map (λ lock. lock.queue) (lock_at locks.new.slots place) ≡ Some queue }
     ensures room { HasRoomFor locks.old 1 → HasRoomFor locks.new 1 }
     ensures key { locks.new.vacant_key ≡ locks.old.vacant_key }
     ensures locks_capacity { locks.new.capacity ≡ locks.old.capacity }

@@ -29,6 +29,7 @@ pub mod Taken
 pub mod QuietSteps
 pub mod Adopted
 pub mod Led
+pub mod Parks
 pub mod Acquires
 pub mod Waiting
 pub mod Idle
@@ -44,3 +45,7 @@ pub mod Auditing
 pub mod AuditSums
 pub mod Stacks
 pub mod AtTable
+pub mod Placed
+pub mod LastSteps
+pub mod LastLoads
+pub mod MadeLast

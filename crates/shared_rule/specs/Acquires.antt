@@ -9,12 +9,12 @@ use Rattle.lock_world.specs.AccountLaw.{MayShareFastBy}
 use Rattle.lock_world.specs.Wakes.Waking.{NoneOr}
 use Rattle.lock_world.specs.AccountSteps.{account_taking, account_taking_fast, account_sharing_fast}
 use Rattle.lock_world.specs.AccountFacts.{KnowsContent, KnowsSlots}
-use Rattle.shared_rule.specs.declared.history.View.{View}
+use Rattle.shared_rule.specs.declared.history.PlacedView.{PlacedView}
 use Rattle.shared_rule.specs.declared.kept.Kept.{Kept}
 use Rattle.shared_rule.specs.declared.kept.Kept.TheVariants.{Nothing}
 use Rattle.shared_rule.specs.Layout.{content_shelf_of}
 use Rattle.shared_rule.specs.Led.{LedBy, LedTo}
-use Rattle.shared_rule.specs.Plays.{account_at, number_at, quiet_at, todo_at}
+use Rattle.shared_rule.specs.Plays.{side_of, account_at, number_at, quiet_at, todo_at}
 use Rattle.shared_rule.specs.Quiet.{quiet_getting}
 use Rattle.shared_rule.specs.Todos.{Todo, todo_attempted}
 use Rattle.shared_rule.specs.Waiters.{WaitsExist}
@@ -33,16 +33,16 @@ MayGetSlots Shared a owner = MayShareFastBy a owner
 
 module _ {T : Type 0} (content : T → Content) where
   -- The session got nothing: the account, and what is in hand, are as before, and this is to do.
-  pub record GotNothing (before after : Seat (Kept T) (View T)) (todo : Todo) : Type 0 where
+  pub record GotNothing (before after : Seat (Kept T) (PlacedView T)) (todo : Todo) : Type 0 where
     pub led : LedTo content before after (account_at content before) todo
-    pub shelves : after.me.1 ≡ before.me.1
+    pub shelves : (side_of after).1 ≡ (side_of before).1
 
   -- The session got nothing, and has as much to do for those who wait as before.
-  abbrev pub IsAsBefore : Seat (Kept T) (View T) → Seat (Kept T) (View T) → Type 0
+  abbrev pub IsAsBefore : Seat (Kept T) (PlacedView T) → Seat (Kept T) (PlacedView T) → Type 0
   IsAsBefore before after = GotNothing before after (todo_at before)
 
   -- The session got nothing, and has tried or is to try this lock still.
-  pub record IsTrying (lock : ℕ) (before after : Seat (Kept T) (View T)) : Type 0 where
+  pub record IsTrying (lock : ℕ) (before after : Seat (Kept T) (PlacedView T)) : Type 0 where
     pub todo : Todo
     pub nothing : GotNothing before after todo
     pub no_other : NoneOr todo.tries lock
@@ -50,22 +50,22 @@ module _ {T : Type 0} (content : T → Content) where
 
   -- The session got the lock of a session's slots, of this number of groups, in this mode, with what they
   -- show.
-  pub record GetsSlots (groups : ℕ) (mode : LwMode) (owner : ℕ) (before after : Seat (Kept T) (View T)) : Type 0 where
+  pub record GetsSlots (groups : ℕ) (mode : LwMode) (owner : ℕ) (before after : Seat (Kept T) (PlacedView T)) : Type 0 where
     pub shown : SlotsInHand
     pub knows : KnowsSlots groups (number_at before) (account_at content before) owner shown
     pub led :
         LedBy content before after
         (account_getting mode (number_at before) (account_at content before) owner shown)
         (quiet_getting mode owner (quiet_at before)) (todo_attempted (todo_at before))
-    pub shelves : after.me.1 ≡ before.me.1
+    pub shelves : (side_of after).1 ≡ (side_of before).1
 
 module _ {T : Type 0} (content : T → Content) (begun : T → Option Request) where
   -- The session got a partition, with this content, in which only sessions with numbers below this one wait.
-  pub record TakesPartition (sessions part : ℕ) (before after : Seat (Kept T) (View T)) (taken : T) : Type 0 where
+  pub record TakesPartition (sessions part : ℕ) (before after : Seat (Kept T) (PlacedView T)) (taken : T) : Type 0 where
     pub led :
         LedTo content before after (account_taking (account_at content before) part (content taken))
         (todo_attempted (todo_at before))
-    pub shelves : after.me.1 ≡ (content_shelf_of part, Nothing) ∷ before.me.1
+    pub shelves : (side_of after).1 ≡ (content_shelf_of part, Nothing) ∷ (side_of before).1
     pub none_begun : begun taken ≡ None
     pub knows : KnowsContent (number_at before) (account_at content before) part (content taken)
     pub waiters : WaitsExist sessions (content taken)

@@ -17,10 +17,10 @@ use Rattle.shared_rule.specs.declared.rule.TableSizes.{TableSizes}
 use Rattle.shared_rule.specs.declared.history.View.{View}
 use Rattle.shared_rule.specs.declared.kept.Kept.{Kept}
 use Rattle.shared_rule.specs.Shown.{WordsAreShown}
-use Rattle.lock_world.specs.Wakes.{Beside, Turn, RunKeeps, IsLookedAfter, OnlyLiveOwe}
-use Rattle.lock_world.specs.Wakes.Waking.{NobodyIsForgotten, IsAsleep, OrderIsKept, NotAllSleep}
+use Rattle.lock_world.specs.Wakes.{Beside, Turn, RunKeeps, RunKeepsInOrder, IsLookedAfter, OnlyLiveOwe}
+use Rattle.lock_world.specs.Wakes.{IsParkedWaiting, IsParkedAsleep, ParkedHaveNothingToDo, NotAllSleep}
+use Rattle.lock_world.specs.Wakes.Waking.{NobodyIsForgotten, IsAsleep, OrderIsKept}
 use Rattle.lock_world.specs.Wakes.Owing.{waking}
-use Rattle.lock_world.specs.Wakes.Calling.{IsParked, ShowsWaiting, ShowsUntold}
 use Rattle.shared_rule.specs.declared.history.History.{History}
 use Rattle.shared_rule.specs.Todos.{todo_told_by}
 use Rattle.shared_rule.specs.Owed.{owed_told}
@@ -92,20 +92,26 @@ pub record ShowsSleepers {T : Type 0} (content : T → Content) (begun : T → O
   pub only_live : OnlyLiveOwe world beside
 
 -- No circle of sleepers comes: the table shows such a World, with what stands beside it as the histories of
--- all sessions tell that have a seat. Nobody stands in the list of a lightweight lock while it has a later
--- one. So where anybody sleeps, not all of those sleep who have a lightweight lock, or something to do for
--- one, or somebody to tell.
+-- all sessions tell that have a seat, and turns of all sessions led there, each session's those that its
+-- history tells. Nobody stands in the list of a lightweight lock while it has a later one. Whoever parks, on
+-- its wait word or its sleep word, has nothing left to do that others may wait for. So not all are parked who
+-- have a lightweight lock, something to do for one, somebody to tell or a call to make, where there are any,
+-- or where anybody is parked for a lightweight lock.
 pub record ShowsNoCircle {T : Type 0} (content : T → Content) (begun : T → Option Request) (sizes : TableSizes)
     (state : State (Kept T) (View T)) : Type 0 where
   pub world : World
   pub words : WordsAreShown sizes state.words world.words
   pub seats : SeatsAreShown content state.views world
+  pub turns : List Turn
   pub beside : Beside
+  pub run : RunKeepsInOrder sizes.sessions sizes.groups turns world beside
+  pub told : TurnsAreTold state.views world.numbers turns
   pub todo :
       (history : History T) → StandsAtSeat state.views history
       → todo_told_by history.number history.marks ≡ todo_of beside history.number
   pub in_order : OrderIsKept (waking world beside.duties)
-  pub somebody_runs : NotAllSleep (waking world beside.duties)
+  pub parked : ParkedHaveNothingToDo world beside
+  pub somebody_runs : NotAllSleep world beside
 
 -- By its history this session has the other to wake, which waits for a lock of the table.
 abbrev pub HasToWake : {T : Type 0} → History T → ℕ → Type 0
@@ -139,8 +145,8 @@ pub record ShowsCalls {T : Type 0} (content : T → Content) (begun : T → Opti
   pub told : TurnsAreTold state.views world.numbers turns
   pub looked : (history : History T) → StandsAtSeat state.views history → looks_told history.marks ≡ looks_of beside history.number
   pub waits :
-      (session shown : ℕ) → IsParked ShowsWaiting beside.waits session shown → world.words.wait session ≢ shown
+      (session shown : ℕ) → IsParkedWaiting beside session shown → world.words.wait session ≢ shown
       → IsOwedBy HasToWake state.views world session
   pub sleeps :
-      (session shown : ℕ) → IsParked ShowsUntold beside.sleeps session shown → world.words.sleep session ≢ shown
+      (session shown : ℕ) → IsParkedAsleep beside session shown → world.words.sleep session ≢ shown
       → IsOwedBy HasToCall state.views world session

@@ -29,7 +29,7 @@ use Rattle.shared_rule.specs.declared.history.WordMark.TheVariants.{Counted, Unc
 use Rattle.shared_rule.specs.declared.history.WordMark.TheVariants.{LoadedDatabase, LoadedSlot, LoadedFast, LoadedStrong, SetSlot}
 use Rattle.shared_rule.specs.declared.history.WordMark.TheVariants.{ClearedSlot, TransferredSlot, StoredDatabase, LockedList, UnlockedList}
 use Rattle.shared_rule.specs.declared.history.WordMark.TheVariants.{JoinedList, LeftList, TookOff, Told, LoadedSleep}
-use Rattle.shared_rule.specs.declared.history.WordMark.TheVariants.{SetReleaseOk, SetHasWaiters, SawListLocked, SawHeld, CalledWaiter, CalledSleeper}
+use Rattle.shared_rule.specs.declared.history.WordMark.TheVariants.{SetReleaseOk, SetHasWaiters, SawListLocked, SawHeld, CalledWaiter, CalledSleeper, ParksWaiting, ParksAsleep}
 use Rattle.shared_rule.specs.declared.history.History.{History}
 use Rattle.shared_rule.specs.declared.history.View.{View}
 
@@ -159,9 +159,11 @@ noted_words number a (LoadedSleep shown) = account_loading_sleep a shown
 noted_words number a (SetReleaseOk lock) = a
 noted_words number a (SetHasWaiters lock) = a
 noted_words number a (SawListLocked lock) = a
-noted_words number a (SawHeld lock) = a
+noted_words number a (SawHeld lock shown) = a
 noted_words number a (CalledWaiter other) = a
 noted_words number a (CalledSleeper other) = a
+noted_words number a (ParksWaiting shown) = a
+noted_words number a (ParksAsleep shown) = a
 
 module _ {T : Type 0} (content : T → Content) where
   -- what a step makes of it

@@ -10,9 +10,12 @@ pub mod WasSo
 pub mod Slots
 pub mod LwLocks
 pub mod Plays
+pub mod Places
+pub mod Allowed
 pub mod Owed
 pub mod Looks
 pub mod Boards
+pub mod Parks
 pub mod Led
 pub mod Acquires
 pub mod Waiters

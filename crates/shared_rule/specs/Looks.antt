@@ -1,11 +1,11 @@
-use Rattle.std.specs.Prelude.{ℕ, List, [], ◌∷◌, Option, Some, None}
+use Rattle.std.specs.Prelude.{ℕ, Bool, true, false, List, [], ◌∷◌, Option, Some, None}
 use Rattle.lock_world.specs.declared.events.Word.{Word}
 use Rattle.lock_world.specs.declared.events.Word.TheVariants.{Database, Slot, Wait, Strong}
 use Rattle.lock_world.specs.Wakes.{Beside}
 use Rattle.shared_rule.specs.declared.history.Mark.{Mark}
 use Rattle.shared_rule.specs.declared.history.Mark.TheVariants.{SetWaiting, LeftQueue, OfWords}
 use Rattle.shared_rule.specs.declared.history.WordMark.{WordMark}
-use Rattle.shared_rule.specs.declared.history.WordMark.TheVariants.{LoadedWait, ClearedWait, LoadedSleep, JoinedList, LeftList}
+use Rattle.shared_rule.specs.declared.history.WordMark.TheVariants.{LoadedWait, ClearedWait, LoadedSleep, JoinedList, LeftList, ParksWaiting, ParksAsleep, CalledWaiter, CalledSleeper}
 use Rattle.shared_rule.specs.declared.history.WordMark.TheVariants.{Asked, LoadedDatabase, LoadedSlot, LoadedStrong}
 
 -- What a session's own words showed as the session loaded them last, where it has stored nothing there since:
@@ -25,6 +25,8 @@ looks_words looks ClearedWait = record looks { on_wait = None }
 looks_words looks (LoadedSleep shown) = record looks { on_sleep = Some shown }
 looks_words looks (JoinedList mode) = record looks { on_sleep = None }
 looks_words looks LeftList = record looks { on_sleep = None }
+looks_words looks (ParksWaiting shown) = record looks { on_wait = Some shown }
+looks_words looks (ParksAsleep shown) = record looks { on_sleep = Some shown }
 looks_words looks mark = looks
 
 module _ {T : Type 0} where
@@ -57,3 +59,13 @@ word_looked_at_by mark = None
 abbrev pub word_looked_at : {T : Type 0} → Mark T → Option Word
 word_looked_at (OfWords mark) = word_looked_at_by mark
 word_looked_at mark = None
+
+-- whether a mark is that of a call
+abbrev pub is_call_by : WordMark → Bool
+is_call_by (CalledWaiter other) = true
+is_call_by (CalledSleeper other) = true
+is_call_by mark = false
+
+abbrev pub is_call : {T : Type 0} → Mark T → Bool
+is_call (OfWords mark) = is_call_by mark
+is_call mark = false

@@ -147,9 +147,10 @@ module _ {T : Type 0} where
   abbrev pub SawListLocked : ℕ → Mark T
   SawListLocked lock = mark.OfWords (word.SawListLocked lock)
 
-  -- a look, which is no step of the World: another session held the lock in the way of an attempt
-  abbrev pub SawHeld : ℕ → Mark T
-  SawHeld lock = mark.OfWords (word.SawHeld lock)
+  -- a look, which is no step of the World: another session held the lock in the way of an attempt, by this
+  -- number in its word
+  abbrev pub SawHeld : ℕ → ℕ → Mark T
+  SawHeld lock shown = mark.OfWords (word.SawHeld lock shown)
 
   -- a call, which is no step of the World: the other session may be parked on its wait word
   abbrev pub CalledWaiter : ℕ → Mark T
@@ -158,3 +159,13 @@ module _ {T : Type 0} where
   -- a call, which is no step of the World: the other session may be parked on its sleep word
   abbrev pub CalledSleeper : ℕ → Mark T
   CalledSleeper other = mark.OfWords (word.CalledSleeper other)
+
+  -- a look, which is no step of the World: the session's own wait word showed this, right before the session
+  -- parks on that
+  abbrev pub ParksWaiting : ℕ → Mark T
+  ParksWaiting shown = mark.OfWords (word.ParksWaiting shown)
+
+  -- a look, which is no step of the World: the session's own sleep word showed this, right before the session
+  -- parks on that
+  abbrev pub ParksAsleep : ℕ → Mark T
+  ParksAsleep shown = mark.OfWords (word.ParksAsleep shown)

@@ -14,6 +14,7 @@ use Rattle.atomic_table.specs.declared.shared.Seat.{Seat}
 use Rattle.shared_rule.specs.declared.history.History.{History}
 use Rattle.shared_rule.specs.declared.history.Mark.{Mark}
 use Rattle.shared_rule.specs.Marks.{TookPart, TookFast, SharedFast, LoadedFast, LockedList, SawListLocked, SawHeld}
+use Rattle.shared_rule.specs.declared.history.PlacedView.{PlacedView}
 use Rattle.shared_rule.specs.declared.history.View.{View}
 use Rattle.shared_rule.specs.declared.kept.Kept.{Kept}
 use Rattle.shared_rule.specs.declared.kept.Kept.TheVariants.{Part}
@@ -37,34 +38,42 @@ abbrev pub Side : Type 0 → Type 0
 Side T = Me (Kept T) (View T)
 
 module _ {T : Type 0} where
+  -- the side of a step, the places of the last steps aside
+  abbrev pub side_in : Me (Kept T) (PlacedView T) → Side T
+  side_in me = (me.0.view, me.1)
+
+  -- the side of the session that makes its steps with the seat
+  abbrev pub side_of : Seat (Kept T) (PlacedView T) → Side T
+  side_of seat = side_in seat.me
+
   -- the number of the session that makes its steps with the seat
-  abbrev pub number_at : Seat (Kept T) (View T) → ℕ
-  number_at seat = first_number seat.me.0.sessions
+  abbrev pub number_at : Seat (Kept T) (PlacedView T) → ℕ
+  number_at seat = first_number (side_of seat).0.sessions
 
   -- the account of the session that makes its steps with the seat
-  abbrev pub account_at : (T → Content) → Seat (Kept T) (View T) → Account
-  account_at content seat = first_account content seat.me.0.sessions
+  abbrev pub account_at : (T → Content) → Seat (Kept T) (PlacedView T) → Account
+  account_at content seat = first_account content (side_of seat).0.sessions
 
   -- the quiet steps of the session that makes its steps with the seat
-  abbrev pub quiet_at : Seat (Kept T) (View T) → List Quiet
-  quiet_at seat = first_quiet seat.me.0.sessions
+  abbrev pub quiet_at : Seat (Kept T) (PlacedView T) → List Quiet
+  quiet_at seat = first_quiet (side_of seat).0.sessions
 
   -- what the session that makes its steps with the seat has to do for those who wait
-  abbrev pub todo_at : Seat (Kept T) (View T) → Todo
-  todo_at seat = first_todo seat.me.0.sessions
+  abbrev pub todo_at : Seat (Kept T) (PlacedView T) → Todo
+  todo_at seat = first_todo (side_of seat).0.sessions
 
   -- whether the session that makes its steps with the seat has set has-waiters in the word of the list that
   -- it locked last
-  abbrev pub flagged_at : Seat (Kept T) (View T) → Bool
-  flagged_at seat = first_flagged seat.me.0.sessions
+  abbrev pub flagged_at : Seat (Kept T) (PlacedView T) → Bool
+  flagged_at seat = first_flagged (side_of seat).0.sessions
 
   -- whom the session that makes its steps with the seat has to wake, of those who wait for a lock of the
   -- table
-  abbrev pub owed_at : Seat (Kept T) (View T) → List ℕ
-  owed_at seat = first_owed seat.me.0.sessions
+  abbrev pub owed_at : Seat (Kept T) (PlacedView T) → List ℕ
+  owed_at seat = first_owed (side_of seat).0.sessions
 
   -- the seat is at this table, which is one of these sizes
-  pub record FitsTable (seat : Seat (Kept T) (View T)) (sizes : TableSizes) (table : TableId) : Type 0 where
+  pub record FitsTable (seat : Seat (Kept T) (PlacedView T)) (sizes : TableSizes) (table : TableId) : Type 0 where
     pub at : seat.table_id ≡ table
     pub sized : IsSized sizes table
 
@@ -75,9 +84,15 @@ module _ {T : Type 0} where
     pub sessions : view.sessions ≡ history ∷ others
 
   -- the seat is the same one after a step
-  pub record IsSameSeat (before after : Seat (Kept T) (View T)) : Type 0 where
+  pub record IsSameSeat (before after : Seat (Kept T) (PlacedView T)) : Type 0 where
     pub table_id : after.table_id ≡ before.table_id
     pub id : after.id ≡ before.id
+
+  -- what a step tells of its side says nothing of places
+  abbrev pub Unplaced :
+      (Step (Kept T) → Side T → ℕ → Side T → Type 0) → Step (Kept T) → Me (Kept T) (PlacedView T) → ℕ
+      → Me (Kept T) (PlacedView T) → Type 0
+  Unplaced tells step before found after = tells step (side_in before) found (side_in after)
 
   -- the step of the seat's session was noted, and no content came or went
   abbrev pub Marked : (ℕ → Mark T) → Step (Kept T) → Side T → ℕ → Side T → Type 0
@@ -168,7 +183,7 @@ module _ {T : Type 0} where
       (IsHeldByNobody found → after ≡ before)
       × ((IsHeldByNobody found → ⊥) → (sessions : ℕ) (lock : LwLock) → LockExists sessions lock
       → step.word ≡ index_of_word sessions (word_of_lock lock)
-      → after ≡ (noting before.0 (SawHeld (lock_number lock)), before.1))
+      → after ≡ (noting before.0 (SawHeld (lock_number lock) found), before.1))
 
   -- A lost exchange is not noted.
   abbrev pub unnoted : ℕ → View T → View T

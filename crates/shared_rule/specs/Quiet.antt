@@ -10,7 +10,7 @@ use Rattle.shared_rule.specs.declared.history.History.{History}
 use Rattle.shared_rule.specs.declared.history.Mark.{Mark}
 use Rattle.shared_rule.specs.declared.history.Mark.TheVariants.{OfWords}
 use Rattle.shared_rule.specs.declared.history.WordMark.{WordMark}
-use Rattle.shared_rule.specs.declared.history.WordMark.TheVariants.{TookFast, SharedFast, Counted, SetSlot}
+use Rattle.shared_rule.specs.declared.history.WordMark.TheVariants.{TookFast, SharedFast, Counted, SetSlot, StoredDatabase}
 
 -- Steps that leave no trace, and that a later step of the session undoes: nothing in its account says then
 -- how many there were. They are listed by themselves, the last one first. What undoes them isn't: what is
@@ -23,6 +23,8 @@ pub data Quiet : Type 0 where
   SetsSlot : (tag : Tag) → (mode : Mode) → Quiet
   -- it counted a strong lock
   CountsStrong : (tag : Tag) → (mode : Mode) → Quiet
+  -- it stored a database as its own
+  StoresDatabase : (database : ℕ) → Quiet
 
 -- getting the lock of a session's slots, exclusively or to share it
 abbrev pub quiet_getting : LwMode → ℕ → List Quiet → List Quiet
@@ -40,6 +42,7 @@ quiet_words before (TookFast owner database words) = TakesSlots owner ∷ before
 quiet_words before (SharedFast owner database words) = SharesSlots owner ∷ before
 quiet_words before (SetSlot slot tag mode) = SetsSlot tag mode ∷ before
 quiet_words before (Counted tag mode) = CountsStrong tag mode ∷ before
+quiet_words before (StoredDatabase database) = StoresDatabase database ∷ before
 quiet_words before its = before
 
 module _ {T : Type 0} where
@@ -64,6 +67,7 @@ quiet_after before (step.TakeExclusive (Fast owner)) = TakesSlots owner ∷ befo
 quiet_after before (step.TakeShared (Fast owner)) = SharesSlots owner ∷ before
 quiet_after before (step.SetSlot slot tag mode) = SetsSlot tag mode ∷ before
 quiet_after before (step.Count tag mode) = CountsStrong tag mode ∷ before
+quiet_after before (step.StoreDatabase database) = StoresDatabase database ∷ before
 quiet_after before its = before
 
 -- the quiet steps of a run once these steps join it, the first one first

@@ -1,4 +1,4 @@
-use Rattle.std.specs.Prelude.{◌≡◌, ℕ, ◌+◌, ◌<◌, true, false, List, [], ◌∷◌, ◌++◌, Option, Some, None}
+use Rattle.std.specs.Prelude.{◌≡◌, ◌≢◌, ℕ, ◌+◌, ◌<◌, true, false, List, [], ◌∷◌, ◌++◌, Option, Some, None}
 use Rattle.modes_core.specs.declared.modes.Mode.{Mode}
 use Rattle.modes_core.specs.declared.tags.Tag.{Tag}
 use Rattle.modes_core.specs.Conflict.{conflict}
@@ -142,9 +142,16 @@ module _ {T : Type 0} where
   ToldClosed step before found after =
       (after ≡ before) × HaveClosed (number_in before.0.next) before.0.closed
 
+  -- The first two of these histories are of sessions with different numbers.
+  abbrev pub HaveTwoNumbers : List (History T) → Type 0
+  HaveTwoNumbers sessions = (first second : History T) (others : List (History T)) →
+      sessions ≡ first ∷ second ∷ others → first.number ≢ second.number
+
 module _ {T : Type 0} (content : T → Content) where
-  -- Nothing changed, and no hold of the first session conflicts with a hold of the one behind it.
+  -- Nothing changed, the first session and the one behind it have different numbers, and no hold of the one
+  -- conflicts with a hold of the other.
   abbrev pub ToldApart : Step (Kept T) → Side T → ℕ → Side T → Type 0
   ToldApart step before found after =
       (after ≡ before)
+      × HaveTwoNumbers before.0.sessions
       × DoNotConflict (first_account content before.0.sessions) (first_account content (behind_of before.0.sessions))

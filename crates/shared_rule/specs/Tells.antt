@@ -8,7 +8,7 @@ use Rattle.lock_world.specs.declared.events.Step.{Step}
 use Rattle.lock_world.specs.declared.events.Step.TheVariants as step
 use Rattle.lock_world.specs.declared.events.Word.TheVariants.{Partition, Fast, Database, Slot}
 use Rattle.lock_world.specs.World.{World}
-use Rattle.lock_world.specs.Wakes.{Turn, happened, saw_list_locked, saw_held, called_waiter, called_sleeper}
+use Rattle.lock_world.specs.Wakes.{Turn, happened, saw_list_locked, saw_held, called_waiter, called_sleeper, parks_waiting, parks_asleep}
 use Rattle.lock_world.specs.Happens.{Happens}
 use Rattle.shared_rule.specs.declared.history.Mark.{Mark}
 use Rattle.shared_rule.specs.declared.history.Mark.TheVariants.{TookPart, PutPart, SetWaiting, MarkedGranted, LeftQueue, OfWords}
@@ -18,7 +18,7 @@ use Rattle.shared_rule.specs.declared.history.WordMark.TheVariants.{Counted, Unc
 use Rattle.shared_rule.specs.declared.history.WordMark.TheVariants.{LoadedDatabase, LoadedSlot, LoadedFast, LoadedStrong, SetSlot}
 use Rattle.shared_rule.specs.declared.history.WordMark.TheVariants.{ClearedSlot, TransferredSlot, StoredDatabase, LockedList, UnlockedList}
 use Rattle.shared_rule.specs.declared.history.WordMark.TheVariants.{JoinedList, LeftList, TookOff, Told, LoadedSleep}
-use Rattle.shared_rule.specs.declared.history.WordMark.TheVariants.{SetReleaseOk, SetHasWaiters, SawListLocked, SawHeld, CalledWaiter, CalledSleeper}
+use Rattle.shared_rule.specs.declared.history.WordMark.TheVariants.{SetReleaseOk, SetHasWaiters, SawListLocked, SawHeld, CalledWaiter, CalledSleeper, ParksWaiting, ParksAsleep}
 use Rattle.shared_rule.specs.declared.lw_locks.LwLock.{LwLock}
 use Rattle.shared_rule.specs.LwLocks.{word_of_lock, lock_number}
 
@@ -63,9 +63,11 @@ WordsTell number (SetReleaseOk lock) its =
 WordsTell number (SetHasWaiters lock) its =
     (shown : ℕ) × IsOnLock lock (λ l. step.SetHasWaiters (word_of_lock l) shown) its
 WordsTell number (SawListLocked lock) its = ⊥
-WordsTell number (SawHeld lock) its = ⊥
+WordsTell number (SawHeld lock shown) its = ⊥
 WordsTell number (CalledWaiter other) its = ⊥
 WordsTell number (CalledSleeper other) its = ⊥
+WordsTell number (ParksWaiting shown) its = ⊥
+WordsTell number (ParksAsleep shown) its = ⊥
 
 -- Putting a partition names the move that was made: the mark's, or, where that is to keep, the one that stood
 -- recorded.
@@ -100,9 +102,11 @@ module _ {T : Type 0} where
   -- The mark is that of a look or of a call, which are no steps: the World is as it was.
   pub data LooksOnly (mark : Mark T) : Type 0 where
     at_list : (lock : ℕ) → mark ≡ OfWords (SawListLocked lock) → LooksOnly mark
-    at_lock : (lock : ℕ) → mark ≡ OfWords (SawHeld lock) → LooksOnly mark
+    at_lock : (lock shown : ℕ) → mark ≡ OfWords (SawHeld lock shown) → LooksOnly mark
     calls_waiter : (other : ℕ) → mark ≡ OfWords (CalledWaiter other) → LooksOnly mark
     calls_sleeper : (other : ℕ) → mark ≡ OfWords (CalledSleeper other) → LooksOnly mark
+    at_wait : (shown : ℕ) → mark ≡ OfWords (ParksWaiting shown) → LooksOnly mark
+    at_sleep : (shown : ℕ) → mark ≡ OfWords (ParksAsleep shown) → LooksOnly mark
 
   -- These steps are those that the marks tell, the last mark first: the last step is told by the first of
   -- them, and the steps before it by the others; looks and calls aside.
@@ -122,6 +126,8 @@ events_of (saw_list_locked session lock ∷ turns) = events_of turns
 events_of (saw_held session lock ∷ turns) = events_of turns
 events_of (called_waiter session other ∷ turns) = events_of turns
 events_of (called_sleeper session other ∷ turns) = events_of turns
+events_of (parks_waiting session shown ∷ turns) = events_of turns
+events_of (parks_asleep session shown ∷ turns) = events_of turns
 
 -- whether the turn is one of this session, and none of seats
 abbrev pub is_turn_of : ℕ → Turn → Bool
@@ -130,6 +136,8 @@ is_turn_of number (saw_list_locked session lock) = session == number
 is_turn_of number (saw_held session lock) = session == number
 is_turn_of number (called_waiter session other) = session == number
 is_turn_of number (called_sleeper session other) = session == number
+is_turn_of number (parks_waiting session shown) = session == number
+is_turn_of number (parks_asleep session shown) = session == number
 
 -- the turns of a session, in order, those of seats aside
 abbrev pub turns_of : ℕ → List Turn → List Turn
@@ -140,9 +148,11 @@ module _ {T : Type 0} where
   abbrev pub TellsTurn : ℕ → Mark T → Turn → Type 0
   TellsTurn number mark (happened event) = Tells number mark event.step
   TellsTurn number mark (saw_list_locked session lock) = mark ≡ OfWords (SawListLocked lock)
-  TellsTurn number mark (saw_held session lock) = mark ≡ OfWords (SawHeld lock)
+  TellsTurn number mark (saw_held session lock) = (shown : ℕ) × (mark ≡ OfWords (SawHeld lock shown))
   TellsTurn number mark (called_waiter session other) = mark ≡ OfWords (CalledWaiter other)
   TellsTurn number mark (called_sleeper session other) = mark ≡ OfWords (CalledSleeper other)
+  TellsTurn number mark (parks_waiting session shown) = mark ≡ OfWords (ParksWaiting shown)
+  TellsTurn number mark (parks_asleep session shown) = mark ≡ OfWords (ParksAsleep shown)
 
   -- These turns are those that the marks tell, one each, the last mark first.
   abbrev pub AreTurnsTold : ℕ → List (Mark T) → List Turn → Type 0

@@ -100,7 +100,7 @@ todo_words number lists todo (UnsharedFast owner found) = todo_putting todo (fas
 todo_words number lists todo (Passed owner tag mode found) = todo_putting todo (fast_lock owner) (put_in Exclusive (state_of found))
 todo_words number lists todo (LockedList lock waiters) = todo_looked todo
 todo_words number lists todo (SawListLocked lock) = todo_looked todo
-todo_words number lists todo (SawHeld lock) = todo_attempted todo
+todo_words number lists todo (SawHeld lock shown) = todo_attempted todo
 todo_words number lists todo (JoinedList mode) = todo_queueing todo (lock_of_list lists.in_hand)
 todo_words number lists todo LeftList = todo_leaving todo
 todo_words number lists todo (TookOff other) = todo_owing todo other
@@ -192,14 +192,6 @@ pub data IsLeftWellBy (a : Account) (todo : Todo) (lock : LwLock) (waiters : Lis
   still_has : HasBy a lock → IsLeftWellBy a todo lock waiters
   tries_next : todo.tries ≡ Some (lock_number lock) → IsLeftWellBy a todo lock waiters
 
--- Sleeping until it is told, which is no step: the session has done first what it has to do for others.
-pub record MaySleepBy (a : Account) (todo : Todo) : Type 0 where
-  pub no_look : todo.due ≡ None
-  pub no_try : todo.tries ≡ None
-  pub no_list : a.lists.in_hand ≡ None
-  pub tells_nobody : TellsNobodyBy a
-  pub calls_nobody : (other : ℕ) → todo.calls other ≡ false
-
 -- By its account the session has no lightweight lock, but for partitions that it shares.
 pub record HasNoLock (a : Account) : Type 0 where
   pub no_partition : (part : ℕ) → a.hand part ≡ None
@@ -211,6 +203,20 @@ pub record HasNoLock (a : Account) : Type 0 where
 abbrev pub IsLatestBy : Account → LwLock → Type 0
 IsLatestBy a (OfPart part) = IsAboveHand a part
 IsLatestBy a (OfSlots owner) = HasNoLock a
+
+-- Sleeping until it is told: the session stands in the list of a lock, and has done first what it has to do
+-- for others, and woken whom it has to. Either it hasn't won that lock, since it has earlier ones alone, or
+-- it knows that it is off the list.
+pub record MaySleepBy (a : Account) (todo : Todo) (owed : List ℕ) : Type 0 where
+  pub lock : LwLock
+  pub stands : a.lists.stands ≡ Some (lock_number lock)
+  pub not_won : IsLatestBy a lock ⊎ (todo.owes_release_ok ≡ None)
+  pub wakes_nobody : owed ≡ []
+  pub no_look : todo.due ≡ None
+  pub no_try : todo.tries ≡ None
+  pub no_list : a.lists.in_hand ≡ None
+  pub tells_nobody : TellsNobodyBy a
+  pub calls_nobody : (other : ℕ) → todo.calls other ≡ false
 
 -- The list in hand is that of a lock that is later than all lightweight locks which the session has by its
 -- account.

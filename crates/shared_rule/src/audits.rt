@@ -2,7 +2,7 @@
 
 ghost use Rattle.std.specs.Prelude.{◌≡◌, ◌<◌, ◌≤◌, ◌+◌, ◌*◌, List, [], ◌∷◌, length, count_by, ℕ, None};
 ghost use mathlib.Core.Option.{none};
-ghost use Rattle.atomic_table.specs.Table.{Allows, step, rest};
+ghost use Rattle.atomic_table.specs.Table.{step, rest};
 ghost use Rattle.lock_table.specs.declared.rows.TableRow.{TableRow};
 ghost use Rattle.lock_table.specs.declared.moves.Move.TheVariants.{Keep};
 ghost use Rattle.lock_world.specs.Account.{InHand};
@@ -24,8 +24,8 @@ ghost use Rattle.shared_rule.specs.History.{noting, first_account, taken_of};
 ghost use Rattle.shared_rule.specs.Layout.{content_shelf_of};
 ghost use Rattle.shared_rule.specs.Looks.{word_looked_at};
 ghost use Rattle.shared_rule.specs.Lawful.{IsAboveHand, MayPutPart};
-ghost use Rattle.shared_rule.specs.Plays.{account_at, number_at, todo_at, FitsTable, HasSession, IsSameSeat};
-ghost use Rattle.shared_rule.specs.Ruled.{Ruled};
+ghost use Rattle.shared_rule.specs.Plays.{side_of, account_at, number_at, todo_at, FitsTable, HasSession, IsSameSeat};
+ghost use Rattle.shared_rule.specs.Allowed.{AllowsStep};
 ghost use Rattle.shared_rule.specs.Seats.{MayBeKeptApartBy};
 ghost use Rattle.modes_core.specs.Sessions.{most_sessions};
 
@@ -59,13 +59,13 @@ fn look_over_as<T: PartTable, M: Marking<T>>(
     word: usize,
 ) -> u64
     requires table { FitsTable seat.old words.now.key words.now.table_id × (word < words.now.table_id.words) }
-    requires allowed { Allows (Ruled T.content T.begun words.now.key) words.now.table_id.slots
-        seat.old.id seat.old.me word (λ n. n)
-        (LookedOver T.content M.mark (step words.now.table_id.slots word 0 0 none) seat.old.me) }
+    requires allowed { AllowsStep T.content T.begun words.now.key words.now.table_id.slots
+        seat.old.id (side_of seat.old) word (λ n. n)
+        (LookedOver T.content M.mark (step words.now.table_id.slots word 0 0 none) (side_of seat.old)) }
     ensures same_seat { IsSameSeat seat.old seat.new }
-    ensures side { seat.new.me ≡ (noting seat.old.me.0 (M.mark result), seat.old.me.1) }
+    ensures side { side_of seat.new ≡ (noting (side_of seat.old).0 (M.mark result), (side_of seat.old).1) }
     ensures knows { (which : Word) (issued : ℕ) → word_looked_at (M.mark result) ≡ Some which
-        → AreAll issued seat.old.me.0 → KnowsOfAll T.content seat.old.me.0 which result }
+        → AreAll issued (side_of seat.old).0 → KnowsOfAll T.content (side_of seat.old).0 which result }
 {
     words.load::<LooksOver<M>>(seat, word)
 }
@@ -81,13 +81,13 @@ fn look_over_slot<T: PartTable, M: Marking<T>>(
     requires table { FitsTable seat.old words.now.key words.now.table_id }
     requires sessions { sessions ≡ words.now.key.sessions }
     requires exists { owner < words.now.key.sessions }
-    requires session { HasSession seat.old.me.0 }
+    requires session { HasSession (side_of seat.old).0 }
     requires within { slot < group_size * words.now.key.groups }
     requires mark { M.mark ≡ LoadedSlot owner slot }
     ensures same_seat { IsSameSeat seat.old seat.new }
-    ensures side { seat.new.me ≡ (noting seat.old.me.0 (LoadedSlot owner slot result), seat.old.me.1) }
-    ensures knows { (issued : ℕ) → AreAll issued seat.old.me.0
-        → KnowsOfAll T.content seat.old.me.0 (Slot owner slot) result }
+    ensures side { side_of seat.new ≡ (noting (side_of seat.old).0 (LoadedSlot owner slot result), (side_of seat.old).1) }
+    ensures knows { (issued : ℕ) → AreAll issued (side_of seat.old).0
+        → KnowsOfAll T.content (side_of seat.old).0 (Slot owner slot) result }
 {
     SlotWord::from_number(look_over_as::<T, M>(words, seat, slot_word(sessions, owner, slot)))
 }
@@ -99,13 +99,13 @@ fn look_over_strong<T: PartTable, M: Marking<T>>(
     index: u16,
 ) -> u64
     requires table { FitsTable seat.old words.now.key words.now.table_id }
-    requires session { HasSession seat.old.me.0 }
+    requires session { HasSession (side_of seat.old).0 }
     requires within { index < 1024 }
     requires mark { M.mark ≡ LoadedStrong index }
     ensures same_seat { IsSameSeat seat.old seat.new }
-    ensures side { seat.new.me ≡ (noting seat.old.me.0 (LoadedStrong index result), seat.old.me.1) }
-    ensures knows { (issued : ℕ) → AreAll issued seat.old.me.0
-        → KnowsOfAll T.content seat.old.me.0 (Strong index) result }
+    ensures side { side_of seat.new ≡ (noting (side_of seat.old).0 (LoadedStrong index result), (side_of seat.old).1) }
+    ensures knows { (issued : ℕ) → AreAll issued (side_of seat.old).0
+        → KnowsOfAll T.content (side_of seat.old).0 (Strong index) result }
 {
     look_over_as::<T, M>(words, seat, strong_word(index))
 }
@@ -114,12 +114,12 @@ fn look_over_strong<T: PartTable, M: Marking<T>>(
 // each one's own holds are. Loads a word of `words`, and ignores what it finds.
 fn tell_all_as<T: PartTable, G: Sizing>(words: &SharedWords<T>, seat: &mut Seat<T>)
     requires table { FitsTable seat.old words.now.key words.now.table_id }
-    requires session { HasSession seat.old.me.0 }
+    requires session { HasSession (side_of seat.old).0 }
     requires sizes { G.sizes ≡ words.now.key }
     ensures same_seat { IsSameSeat seat.old seat.new }
-    ensures side { seat.new.me ≡ seat.old.me }
-    ensures knows { (issued : ℕ) → AreAll issued seat.old.me.0
-        → KnowsAll T.content words.now.key.groups issued seat.old.me.0 }
+    ensures side { side_of seat.new ≡ (side_of seat.old) }
+    ensures knows { (issued : ℕ) → AreAll issued (side_of seat.old).0
+        → KnowsAll T.content words.now.key.groups issued (side_of seat.old).0 }
 {
     words.load::<TellsAll<G>>(seat, 0);
 }
@@ -127,11 +127,11 @@ fn tell_all_as<T: PartTable, G: Sizing>(words: &SharedWords<T>, seat: &mut Seat<
 // Has clauses learn what `tell_all_as` does, with as many groups of slots as the table has.
 fn tell_all<T: PartTable>(words: &SharedWords<T>, seat: &mut Seat<T>)
     requires table { FitsTable seat.old words.now.key words.now.table_id }
-    requires session { HasSession seat.old.me.0 }
+    requires session { HasSession (side_of seat.old).0 }
     ensures same_seat { IsSameSeat seat.old seat.new }
-    ensures side { seat.new.me ≡ seat.old.me }
-    ensures knows { (issued : ℕ) → AreAll issued seat.old.me.0
-        → KnowsAll T.content words.now.key.groups issued seat.old.me.0 }
+    ensures side { side_of seat.new ≡ (side_of seat.old) }
+    ensures knows { (issued : ℕ) → AreAll issued (side_of seat.old).0
+        → KnowsAll T.content words.now.key.groups issued (side_of seat.old).0 }
 {
     tell_all_as::<T, Brand>(words, seat);
 }
@@ -148,12 +148,12 @@ fn modes_in(word: SlotWord) -> u64
 /// The sum of all strong lock counters of `words`, each loaded once by `seat`.
 pub(crate) fn count_counters<T: PartTable>(words: &SharedWords<T>, seat: &mut Seat<T>) -> u64
     requires table { FitsTable seat.old words.now.key words.now.table_id }
-    requires session { HasSession seat.old.me.0 }
-    requires all { (issued : ℕ) × AreAll issued seat.old.me.0 }
+    requires session { HasSession (side_of seat.old).0 }
+    requires all { (issued : ℕ) × AreAll issued (side_of seat.old).0 }
     requires no_slots { (account_at T.content seat.old).fast.slots (number_at seat.old) ≡ None }
     ensures same_seat { IsSameSeat seat.old seat.new }
-    ensures shelves { seat.new.me.1 ≡ seat.old.me.1 }
-    ensures seen { CountersSeen T.content 1024 seat.old.me.0 seat.new.me.0 result }
+    ensures shelves { (side_of seat.new).1 ≡ (side_of seat.old).1 }
+    ensures seen { CountersSeen T.content 1024 (side_of seat.old).0 (side_of seat.new).0 result }
 {
     let mut sum = 0;
     for index in 0..STRONG_COUNTERS as u16 {
@@ -170,12 +170,12 @@ fn count_slots_of<T: PartTable>(
     sizes: &TableSizes,
 ) -> u64
     requires table { FitsTable seat.old words.now.key words.now.table_id }
-    requires session { HasSession seat.old.me.0 }
+    requires session { HasSession (side_of seat.old).0 }
     requires sizes { sizes.now ≡ words.now.key }
     requires exists { owner < words.now.key.sessions }
     ensures same_seat { IsSameSeat seat.old seat.new }
-    ensures shelves { seat.new.me.1 ≡ seat.old.me.1 }
-    ensures sees { SeesSlots T.content owner (group_size * sizes.now.groups) seat.old.me.0 seat.new.me.0 result }
+    ensures shelves { (side_of seat.new).1 ≡ (side_of seat.old).1 }
+    ensures sees { SeesSlots T.content owner (group_size * sizes.now.groups) (side_of seat.old).0 (side_of seat.new).0 result }
     ensures few { result ≤ 384 }
 {
     let mut sum = 0;
@@ -188,12 +188,12 @@ fn count_slots_of<T: PartTable>(
 // How many modes all slots show, of the sessions that there can be.
 fn count_slots<T: PartTable>(words: &SharedWords<T>, seat: &mut Seat<T>, sizes: &TableSizes) -> u64
     requires table { FitsTable seat.old words.now.key words.now.table_id }
-    requires session { HasSession seat.old.me.0 }
+    requires session { HasSession (side_of seat.old).0 }
     requires sizes { sizes.now ≡ words.now.key }
     requires few { sizes.now.sessions ≤ most_sessions }
     ensures same_seat { IsSameSeat seat.old seat.new }
-    ensures shelves { seat.new.me.1 ≡ seat.old.me.1 }
-    ensures sees { SeesAllSlots T.content sizes.now.groups sizes.now.sessions seat.old.me.0 seat.new.me.0 result }
+    ensures shelves { (side_of seat.new).1 ≡ (side_of seat.old).1 }
+    ensures sees { SeesAllSlots T.content sizes.now.groups sizes.now.sessions (side_of seat.old).0 (side_of seat.new).0 result }
 {
     let mut sum = 0;
     for number in 0..sizes.sessions {
@@ -211,17 +211,17 @@ fn take_next<T: PartTable, R: Wait>(
     part: u8,
 ) -> T
     requires table { FitsTable seat.old words.now.key words.now.table_id }
-    requires session { HasSession seat.old.me.0 }
+    requires session { HasSession (side_of seat.old).0 }
     requires exists { part < 16 }
     requires none_in_hand { IsAboveHand (account_at T.content seat.old) part }
     requires idle { (account_at T.content seat.old).lists ≡ no_lists }
     requires todo { todo_at seat.old ≡ nothing_to_do }
     ensures same_seat { IsSameSeat seat.old seat.new }
-    ensures side { seat.new.me
-        ≡ (noting seat.old.me.0 (TookPart part result), (content_shelf_of part, Nothing) ∷ seat.old.me.1) }
+    ensures side { (side_of seat.new)
+        ≡ (noting (side_of seat.old).0 (TookPart part result), (content_shelf_of part, Nothing) ∷ (side_of seat.old).1) }
     ensures none_begun { T.begun result ≡ None }
     ensures knows { KnowsContent (number_at seat.old) (account_at T.content seat.old) part (T.content result) }
-    ensures session_there { HasSession seat.new.me.0 }
+    ensures session_there { HasSession (side_of seat.new).0 }
     ensures above { IsAboveHand (account_at T.content seat.new) (part + 1) }
     ensures lists { (account_at T.content seat.new).lists ≡ (account_at T.content seat.old).lists }
     ensures todo { todo_at seat.new ≡ nothing_to_do }
@@ -234,8 +234,8 @@ fn take_next<T: PartTable, R: Wait>(
 fn put_back<T: PartTable>(words: &SharedWords<T>, seat: &mut Seat<T>, part: u8, content: T)
     requires table { FitsTable seat.old words.now.key words.now.table_id }
     requires exists { part < 16 }
-    requires session { HasSession seat.old.me.0 }
-    requires in_hand { seat.old.me.1 ≡ (content_shelf_of part, Nothing) ∷ rest seat.old.me.1 }
+    requires session { HasSession (side_of seat.old).0 }
+    requires in_hand { (side_of seat.old).1 ≡ (content_shelf_of part, Nothing) ∷ rest (side_of seat.old).1 }
     requires none_begun { T.begun content ≡ None }
     requires lawful { (mine : InHand) × MayPutPart words.now.key.sessions (number_at seat.old)
         (account_at T.content seat.old) part mine Keep (T.content content) }
@@ -243,7 +243,7 @@ fn put_back<T: PartTable>(words: &SharedWords<T>, seat: &mut Seat<T>, part: u8, 
     requires todo { todo_at seat.old ≡ nothing_to_do }
     ensures led { Led T.content seat.old seat.new (account_putting (account_at T.content seat.old) part
         (taken_of ((account_at T.content seat.old).hand part)) (T.content content) Keep) }
-    ensures shelves { seat.new.me.1 ≡ rest seat.old.me.1 }
+    ensures shelves { (side_of seat.new).1 ≡ rest (side_of seat.old).1 }
 {
     put_part::<T, Brand>(words, seat, part, &Move::Keep, content);
 }
@@ -262,7 +262,7 @@ pub(crate) fn count_from<T: PartTable, R: Wait>(
     rows: &mut Vec<TableRow>,
 ) -> Result<(), NoMemory>
     requires table { FitsTable seat.old words.now.key words.now.table_id }
-    requires session { HasSession seat.old.me.0 }
+    requires session { HasSession (side_of seat.old).0 }
     requires sizes { sizes.now ≡ words.now.key }
     requires few { sizes.now.sessions ≤ most_sessions }
     requires exists { part ≤ 16 }
@@ -270,9 +270,9 @@ pub(crate) fn count_from<T: PartTable, R: Wait>(
     requires idle { (account_at T.content seat.old).lists ≡ no_lists }
     requires todo { todo_at seat.old ≡ nothing_to_do }
     ensures same_seat { IsSameSeat seat.old seat.new }
-    ensures shelves { seat.new.me.1 ≡ seat.old.me.1 }
-    ensures counts { CountsFrom T.content sizes.now.groups part sizes.now.sessions seat.old.me.0 rows.old.items result
-        fast.new seat.new.me.0 rows.new.items }
+    ensures shelves { (side_of seat.new).1 ≡ (side_of seat.old).1 }
+    ensures counts { CountsFrom T.content sizes.now.groups part sizes.now.sessions (side_of seat.old).0 rows.old.items result
+        fast.new (side_of seat.new).0 rows.new.items }
 {
     if u32::from(part) == PARTITIONS {
         tell_all(words, seat);

@@ -2,7 +2,7 @@
 //! atomic step (or several attempts at one), so what is proved over any board holds for the table that
 //! threads share and for the fake that tests use.
 
-ghost use Rattle.std.specs.Prelude.{◌≡◌, ◌<◌, ◌≤◌, ◌*◌, ◌||◌, ◌==◌, ℕ, List, [], ◌∷◌, map, Some, None};
+ghost use Rattle.std.specs.Prelude.{◌≡◌, ◌<◌, ◌≤◌, ◌*◌, ◌||◌, ◌==◌, ℕ, List, [], ◌∷◌, map, Some, None, true};
 ghost use Rattle.modes_core.specs.Tag.{partition_of};
 ghost use Rattle.lock_table.specs.declared.moves.Move.TheVariants.{Join};
 ghost use Rattle.lock_table.specs.Content as contents;
@@ -24,9 +24,9 @@ ghost use Rattle.lock_world.specs.AccountFacts.{KnowsContent};
 ghost use Rattle.lock_world.specs.AccountLaw.{MayMoveBy, MayLeaveBy, MayPutFastBy, MayUnshareFastBy};
 ghost use Rattle.lock_world.specs.AccountLaw.{MayPassBy, MayCountBy, MayUncountBy};
 ghost use Rattle.lock_world.specs.AccountLaw.{MaySetSlotBy, MayClearSlotBy, MayTransferBy};
-ghost use Rattle.shared_rule.specs.History.{taken_of, slots_here, in_hand, sessions_told};
+ghost use Rattle.shared_rule.specs.History.{taken_of, slots_here, in_hand, is_among, sessions_told};
 ghost use Rattle.shared_rule.specs.History.{account_granting, account_cleared, account_left};
-ghost use Rattle.shared_rule.specs.Quiet.{Quiet, TakesSlots, SharesSlots, SetsSlot, CountsStrong, quiet_trying};
+ghost use Rattle.shared_rule.specs.Quiet.{Quiet, TakesSlots, SharesSlots, SetsSlot, CountsStrong, StoresDatabase, quiet_trying};
 ghost use Rattle.shared_rule.specs.Slots.{TakesFast, SharesFast, TriesFast};
 ghost use Rattle.shared_rule.specs.Boards.{Seated, Stack, nothing_due, stack_taking, stack_putting};
 ghost use Rattle.shared_rule.specs.Boards.{stack_owing, stack_asking, stack_waking};
@@ -215,7 +215,7 @@ pub trait Board<T: PartTable> {
         ensures seat { seat self.new ≡ seat self.old }
         ensures view { view self.new ≡ account_storing (view self.old) database }
         ensures stack { stack self.new ≡ stack self.old }
-        ensures quiet { quiet self.new ≡ quiet self.old };
+        ensures quiet { quiet self.new ≡ StoresDatabase database ∷ quiet self.old };
 
     /// Loads the fast-path slot `slot` of `owner`, one of those of its groups (`fpRelId` and `fpLockBits` in
     /// proc.h).
@@ -377,17 +377,23 @@ pub trait Board<T: PartTable> {
     /// also return for no reason (`WaitLatch` in `ProcSleep` of proc.c). The session has loaded that number
     /// just before, so no grant and no request to cancel that came since is slept through. It has no
     /// lightweight lock, so nobody waits for one that it would keep while it sleeps, and owes nobody a wake.
-    fn sleep<R: Wait>(&self, rt: &R, shown: u64)
-        requires looked { HasJustLooked (seat self.now).number (view self.now) shown }
-        requires nothing_due { stack self.now ≡ nothing_due }
-        requires no_slots { (owner : ℕ) → (view self.now).fast.slots owner ≡ None }
-        requires no_shared_slots { (owner : ℕ) → (view self.now).fast.shared_slots owner ≡ None };
+    /// Its history notes that it parks.
+    fn sleep<R: Wait>(&mut self, rt: &R, shown: u64)
+        requires looked { HasJustLooked (seat self.old).number (view self.old) shown }
+        requires nothing_due { stack self.old ≡ nothing_due }
+        requires no_slots { (owner : ℕ) → (view self.old).fast.slots owner ≡ None }
+        requires no_shared_slots { (owner : ℕ) → (view self.old).fast.shared_slots owner ≡ None }
+        ensures seat { seat self.new ≡ seat self.old }
+        ensures view { view self.new ≡ view self.old }
+        ensures stack { stack self.new ≡ stack self.old }
+        ensures quiet { quiet self.new ≡ quiet self.old };
 
-    /// Wakes `other`, which sleeps until its wait word changes (`SetLatch` in `ProcWakeup` of proc.c):
-    /// `other` is owed one wake less from then on. The call is no step on a word, but the history of the
-    /// session that makes it notes the wake.
+    /// Wakes `other`, which sleeps until its wait word changes and is owed a wake (`SetLatch` in `ProcWakeup`
+    /// of proc.c): `other` is owed one wake less from then on. The call is no step on a word, but the history
+    /// of the session that makes it notes the wake.
     fn wake(&mut self, other: SessionId)
         requires exists { other < (seat self.old).limit }
+        requires owed { is_among (stack self.old).owed other ≡ true }
         ensures seat { seat self.new ≡ seat self.old }
         ensures view { view self.new ≡ view self.old }
         ensures stack { stack self.new ≡ stack_waking (stack self.old) other }

@@ -4,7 +4,7 @@ ghost use Rattle.std.specs.Prelude.{◌≡◌, ◌<◌};
 ghost use Rattle.lock_world.specs.AccountLaw.{MayCountBy, MayUncountBy};
 ghost use Rattle.shared_rule.specs.Marks.{Counted, Uncounted, LoadedStrong};
 ghost use Rattle.shared_rule.specs.History.{noting};
-ghost use Rattle.shared_rule.specs.Plays.{account_at, FitsTable, HasSession, IsSameSeat};
+ghost use Rattle.shared_rule.specs.Plays.{side_of, account_at, FitsTable, HasSession, IsSameSeat};
 
 use crate::layout::strong_word;
 use crate::plays::Marking;
@@ -22,11 +22,11 @@ pub(crate) fn add_strong<T: PartTable, M: Marking<T>>(
     mode: Mode,
 )
     requires table { FitsTable seat.old words.now.key words.now.table_id }
-    requires session { HasSession seat.old.me.0 }
+    requires session { HasSession (side_of seat.old).0 }
     requires lawful { MayCountBy (account_at T.content seat.old) tag.now mode }
     requires mark { M.mark ≡ (λ _. Counted tag.now mode) }
     ensures same_seat { IsSameSeat seat.old seat.new }
-    ensures side { seat.new.me ≡ (noting seat.old.me.0 (Counted tag.now mode), seat.old.me.1) }
+    ensures side { side_of seat.new ≡ (noting (side_of seat.old).0 (Counted tag.now mode), (side_of seat.old).1) }
 {
     fetch_add_as::<T, M>(words, seat, strong_word(tag.strong_index()), 1);
 }
@@ -40,11 +40,11 @@ pub(crate) fn sub_strong<T: PartTable, M: Marking<T>>(
     mode: Mode,
 )
     requires table { FitsTable seat.old words.now.key words.now.table_id }
-    requires session { HasSession seat.old.me.0 }
+    requires session { HasSession (side_of seat.old).0 }
     requires lawful { MayUncountBy (account_at T.content seat.old) tag.now mode }
     requires mark { M.mark ≡ (λ _. Uncounted tag.now mode) }
     ensures same_seat { IsSameSeat seat.old seat.new }
-    ensures side { seat.new.me ≡ (noting seat.old.me.0 (Uncounted tag.now mode), seat.old.me.1) }
+    ensures side { side_of seat.new ≡ (noting (side_of seat.old).0 (Uncounted tag.now mode), (side_of seat.old).1) }
 {
     fetch_sub_as::<T, M>(words, seat, strong_word(tag.strong_index()), 1);
 }
@@ -57,11 +57,11 @@ pub(crate) fn load_strong<T: PartTable, M: Marking<T>>(
     index: u16,
 ) -> u64
     requires table { FitsTable seat.old words.now.key words.now.table_id }
-    requires session { HasSession seat.old.me.0 }
+    requires session { HasSession (side_of seat.old).0 }
     requires within { index < 1024 }
     requires mark { M.mark ≡ LoadedStrong index }
     ensures same_seat { IsSameSeat seat.old seat.new }
-    ensures side { seat.new.me ≡ (noting seat.old.me.0 (LoadedStrong index result), seat.old.me.1) }
+    ensures side { side_of seat.new ≡ (noting (side_of seat.old).0 (LoadedStrong index result), (side_of seat.old).1) }
 {
     load_as::<T, M>(words, seat, strong_word(index))
 }

@@ -202,6 +202,8 @@ pub enum WordMark {
     SawHeld {
         /// The number of the lightweight lock.
         lock: u16,
+        /// What the lock's word showed.
+        shown: u64,
     },
     /// The session calls `other`, which may be parked on its wait word: no step, but a look at that word,
     /// right before the call.
@@ -214,6 +216,18 @@ pub enum WordMark {
     CalledSleeper {
         /// The session that is called, to go on if it is parked.
         other: u16,
+    },
+    /// The session looked at its own wait word, which showed `shown`, to park on that: no step, but a look
+    /// right before it parks. It has nothing left to do that others may wait for.
+    ParksWaiting {
+        /// What the session's wait word showed.
+        shown: u64,
+    },
+    /// The session looked at its own sleep word, which showed `shown`, to park on that: no step, but a look
+    /// right before it parks. It has nothing left to do for others.
+    ParksAsleep {
+        /// What the session's sleep word showed.
+        shown: u64,
     },
 }
 
@@ -293,4 +307,13 @@ pub struct View<T> {
     pub closed: LinkedList<History<T>>,
     /// The histories of the sessions that the seat is for, the first of which makes its steps.
     pub sessions: LinkedList<History<T>>,
+}
+
+/// What a seat knows, and when the last step of each of its sessions was made.
+pub struct PlacedView<T> {
+    /// What the seat knows of its sessions.
+    pub view: View<T>,
+    /// The number of each session, and the place of its last step among the steps of all sessions, counted
+    /// from 1. Of several places of one session the first counts; one that has none has made no step.
+    pub places: LinkedList<(u16, u64)>,
 }

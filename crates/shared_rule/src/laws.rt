@@ -70,8 +70,10 @@ pub fn the_table_loses_no_call<T: PartTable>()
 
 /// No circle of sleepers comes at a table that keeps the rule. It shows a World in which nobody stands in the
 /// wait list of a lightweight lock while it has a later one: first come the locks of slots, then the
-/// partitions, the lowest first. So where anybody sleeps, not all of those sleep who have a lightweight lock,
-/// or something to do for one, or somebody to tell: a chain of waiting ends at a session that runs.
+/// partitions, the lowest first. Whoever is parked, on its wait word or its sleep word, has nothing left to
+/// do that others may wait for. So not all are parked who have a lightweight lock, something to do for one,
+/// somebody to tell or a call to make, where there are any, or where anybody is parked for a lightweight
+/// lock: a chain of waiting ends at a session that runs.
 pub fn the_table_lets_no_circle_of_sleepers_come<T: PartTable>()
     ensures { (sizes : TableSizes) (state : State (Kept T) (View T)) → Ruled T.content T.begun sizes state
         → ShowsNoCircle T.content T.begun sizes state }

@@ -16,6 +16,8 @@ mod locks;
 mod lw_locks;
 mod one_thread;
 mod opener;
+pub mod order_laws;
+mod parks;
 mod part_locks;
 mod partitions;
 mod plays;

@@ -1,6 +1,6 @@
 //! The steps by which a session takes the lightweight lock of a session's fast-path slots, and puts it.
 
-ghost use Rattle.std.specs.Prelude.{◌≡◌, ◌<◌, None, ◌≢◌, Some};
+ghost use Rattle.std.specs.Prelude.{◌≡◌, ◌<◌, None, ◌≢◌, Some, []};
 ghost use Rattle.lw_word.specs.declared.words.LwMode.TheVariants.{Exclusive};
 ghost use Rattle.lw_word.specs.LightweightWord.{IsHeldByNobody, taken_word};
 ghost use Rattle.lock_world.specs.Account.{SlotsInHand};
@@ -16,7 +16,7 @@ ghost use Rattle.lock_world.specs.WaitLists.{fast_lock};
 ghost use Rattle.lock_world.specs.Wakes.Waking.{NoneOr};
 ghost use Rattle.lw_word.specs.LockState.{state_of, put_in};
 ghost use Rattle.shared_rule.specs.LwLocks.{no_lists};
-ghost use Rattle.shared_rule.specs.Plays.{account_at, number_at, quiet_at, todo_at, owed_at, FitsTable, HasSession, IsSameSeat, TookSlots};
+ghost use Rattle.shared_rule.specs.Plays.{side_of, account_at, number_at, quiet_at, todo_at, owed_at, FitsTable, HasSession, IsSameSeat, TookSlots};
 ghost use Rattle.std.specs.Bool.{OnTrue, OnFalse};
 ghost use Rattle.shared_rule.specs.Quiet.{quiet_trying};
 ghost use Rattle.shared_rule.specs.Slots.{TriesFast};
@@ -47,7 +47,7 @@ fn attempt_fast<T: PartTable, G: Sizing>(
 ) -> bool
     requires table { FitsTable seat.old words.now.key words.now.table_id }
     requires exists { owner < words.now.key.sessions }
-    requires session { HasSession seat.old.me.0 }
+    requires session { HasSession (side_of seat.old).0 }
     requires free { IsHeldByNobody shown × (taken ≡ taken_word shown) }
     requires no_other_try { NoneOr (todo_at seat.old).tries (fast_lock owner) }
     requires no_other_list { NoneOr (account_at T.content seat.old).lists.stands (fast_lock owner) }
@@ -71,7 +71,7 @@ pub(crate) fn attempt_free_fast<T: PartTable>(
 ) -> bool
     requires table { FitsTable seat.old words.now.key words.now.table_id }
     requires exists { owner < words.now.key.sessions }
-    requires session { HasSession seat.old.me.0 }
+    requires session { HasSession (side_of seat.old).0 }
     requires no_other_try { NoneOr (todo_at seat.old).tries (fast_lock owner) }
     requires no_other_list { NoneOr (account_at T.content seat.old).lists.stands (fast_lock owner) }
     ensures same_seat { IsSameSeat seat.old seat.new }
@@ -98,12 +98,13 @@ pub(crate) fn take_fast<T: PartTable, R: Wait>(
 )
     requires table { FitsTable seat.old words.now.key words.now.table_id }
     requires exists { owner < words.now.key.sessions }
-    requires session { HasSession seat.old.me.0 }
+    requires session { HasSession (side_of seat.old).0 }
     requires own { number ≡ number_at seat.old }
     requires among { number < words.now.key.sessions }
     requires idle { (account_at T.content seat.old).lists ≡ no_lists }
     requires todo { todo_at seat.old ≡ nothing_to_do }
     requires latest { IsLatestBy (account_at T.content seat.old) (OfSlots owner) }
+    requires wakes_nobody { owed_at seat.old ≡ [] }
     ensures { GetsSlots T.content words.now.key.groups Exclusive owner seat.old seat.new }
 {
     let mode = LwMode::Exclusive;
@@ -126,12 +127,12 @@ fn load_fast<T: PartTable, M: Marking<T>>(
     number: SessionId,
 ) -> u64
     requires table { FitsTable seat.old words.now.key words.now.table_id }
-    requires session { HasSession seat.old.me.0 }
+    requires session { HasSession (side_of seat.old).0 }
     requires own { number ≡ number_at seat.old }
     requires among { number < words.now.key.sessions }
     requires mark { M.mark ≡ LoadedFast }
     ensures same_seat { IsSameSeat seat.old seat.new }
-    ensures side { seat.new.me ≡ (noting seat.old.me.0 (LoadedFast result), seat.old.me.1) }
+    ensures side { side_of seat.new ≡ (noting (side_of seat.old).0 (LoadedFast result), (side_of seat.old).1) }
 {
     load_as::<T, M>(words, seat, fast_word(number))
 }
@@ -147,7 +148,7 @@ fn take_own_fast<T: PartTable, G: Sizing>(
     taken: u64,
 ) -> u64
     requires table { FitsTable seat.old words.now.key words.now.table_id }
-    requires session { HasSession seat.old.me.0 }
+    requires session { HasSession (side_of seat.old).0 }
     requires own { number ≡ number_at seat.old }
     requires among { number < words.now.key.sessions }
     requires free { IsHeldByNobody shown × (taken ≡ taken_word shown) }
@@ -155,8 +156,8 @@ fn take_own_fast<T: PartTable, G: Sizing>(
     requires no_other_list { NoneOr (account_at T.content seat.old).lists.stands (fast_lock number) }
     requires sizes { G.sizes ≡ words.now.key }
     ensures same_seat { IsSameSeat seat.old seat.new }
-    ensures won { result ≡ shown → TookSlots T.content words.now.key.groups number seat.old.me seat.new.me }
-    ensures lost { result ≢ shown → seat.new.me ≡ (noting seat.old.me.0 (LoadedFast result), seat.old.me.1) }
+    ensures won { result ≡ shown → TookSlots T.content words.now.key.groups number (side_of seat.old) (side_of seat.new) }
+    ensures lost { result ≢ shown → (side_of seat.new) ≡ (noting (side_of seat.old).0 (LoadedFast result), (side_of seat.old).1) }
 {
     words.compare_exchange::<TriesSlots<G>>(seat, fast_word(number), shown, taken)
 }
@@ -169,7 +170,7 @@ pub(crate) fn try_take_fast<T: PartTable>(
     number: SessionId,
 ) -> Result<(), Busy>
     requires table { FitsTable seat.old words.now.key words.now.table_id }
-    requires session { HasSession seat.old.me.0 }
+    requires session { HasSession (side_of seat.old).0 }
     requires own { number ≡ number_at seat.old }
     requires among { number < words.now.key.sessions }
     requires idle { (account_at T.content seat.old).lists ≡ no_lists }
@@ -180,8 +181,8 @@ pub(crate) fn try_take_fast<T: PartTable>(
     ensures quiet { quiet_at seat.new ≡ quiet_trying number result (quiet_at seat.old) }
     ensures todo { todo_at seat.new ≡ nothing_to_do }
     ensures owed { owed_at seat.new ≡ owed_at seat.old }
-    ensures lone { StaysLone seat.old.me.0 seat.new.me.0 }
-    ensures shelves { seat.new.me.1 ≡ seat.old.me.1 }
+    ensures lone { StaysLone (side_of seat.old).0 (side_of seat.new).0 }
+    ensures shelves { (side_of seat.new).1 ≡ (side_of seat.old).1 }
 {
     let shown = load_fast::<T, Brand>(words, seat, number);
     let Some(taken) = taken(shown) else {
@@ -202,14 +203,14 @@ pub(crate) fn put_fast_home<T: PartTable, M: Marking<T>>(
 ) -> u64
     requires table { FitsTable seat.old words.now.key words.now.table_id }
     requires exists { owner < words.now.key.sessions }
-    requires session { HasSession seat.old.me.0 }
+    requires session { HasSession (side_of seat.old).0 }
     requires lawful { (slots : SlotsInHand) × MayPutFastBy (account_at T.content seat.old) owner slots }
     requires no_look { (todo_at seat.old).due ≡ None }
     requires mark { M.mark ≡ PutFast owner }
     ensures led { LedTo T.content seat.old seat.new
         (account_putting_fast (number_at seat.old) (account_at T.content seat.old) owner)
         (todo_putting (todo_at seat.old) (fast_lock owner) (put_in Exclusive (state_of result))) }
-    ensures shelves { seat.new.me.1 ≡ seat.old.me.1 }
+    ensures shelves { (side_of seat.new).1 ≡ (side_of seat.old).1 }
 {
     fetch_sub_as::<T, M>(words, seat, fast_word(owner), LwMode::Exclusive.amount())
 }
@@ -223,14 +224,14 @@ pub(crate) fn put_fast<T: PartTable, M: Marking<T>>(
 )
     requires table { FitsTable seat.old words.now.key words.now.table_id }
     requires exists { owner < words.now.key.sessions }
-    requires session { HasSession seat.old.me.0 }
+    requires session { HasSession (side_of seat.old).0 }
     requires lawful { (slots : SlotsInHand) × MayPutFastBy (account_at T.content seat.old) owner slots }
     requires idle { (account_at T.content seat.old).lists ≡ no_lists }
     requires todo { todo_at seat.old ≡ nothing_to_do }
     requires mark { M.mark ≡ PutFast owner }
     ensures led { Led T.content seat.old seat.new
         (account_putting_fast (number_at seat.old) (account_at T.content seat.old) owner) }
-    ensures shelves { seat.new.me.1 ≡ seat.old.me.1 }
+    ensures shelves { (side_of seat.new).1 ≡ (side_of seat.old).1 }
 {
     let of = PhantomData::<M>;
     release(seat, &SlotsTaken { words, owner, of }, ());
@@ -246,14 +247,14 @@ pub(crate) fn pass_fast_home<T: PartTable, M: Marking<T>>(
 ) -> u64
     requires table { FitsTable seat.old words.now.key words.now.table_id }
     requires exists { owner < words.now.key.sessions }
-    requires session { HasSession seat.old.me.0 }
+    requires session { HasSession (side_of seat.old).0 }
     requires lawful { (slots : SlotsInHand) × MayPassBy (account_at T.content seat.old) owner slots tag.now mode }
     requires no_look { (todo_at seat.old).due ≡ None }
     requires mark { M.mark ≡ Passed owner tag.now mode }
     ensures led { LedTo T.content seat.old seat.new
         (account_passing (number_at seat.old) (account_at T.content seat.old) owner tag.now mode)
         (todo_putting (todo_at seat.old) (fast_lock owner) (put_in Exclusive (state_of result))) }
-    ensures shelves { seat.new.me.1 ≡ seat.old.me.1 }
+    ensures shelves { (side_of seat.new).1 ≡ (side_of seat.old).1 }
 {
     fetch_sub_as::<T, M>(words, seat, fast_word(owner), LwMode::Exclusive.amount())
 }
@@ -271,14 +272,14 @@ pub(crate) fn pass_fast<T: PartTable, M: Marking<T>>(
 )
     requires table { FitsTable seat.old words.now.key words.now.table_id }
     requires exists { owner < words.now.key.sessions }
-    requires session { HasSession seat.old.me.0 }
+    requires session { HasSession (side_of seat.old).0 }
     requires lawful { (slots : SlotsInHand) × MayPassBy (account_at T.content seat.old) owner slots tag.now mode }
     requires idle { (account_at T.content seat.old).lists ≡ no_lists }
     requires todo { todo_at seat.old ≡ nothing_to_do }
     requires mark { M.mark ≡ Passed owner tag.now mode }
     ensures led { Led T.content seat.old seat.new
         (account_passing (number_at seat.old) (account_at T.content seat.old) owner tag.now mode) }
-    ensures shelves { seat.new.me.1 ≡ seat.old.me.1 }
+    ensures shelves { (side_of seat.new).1 ≡ (side_of seat.old).1 }
 {
     let of = PhantomData::<M>;
     release(

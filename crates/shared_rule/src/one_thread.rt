@@ -1,5 +1,6 @@
 //! A board for tests: one session, session 0, at a table of its own.
 
+ghost use Rattle.shared_rule.specs.Plays.{side_of};
 ghost use Rattle.std.specs.Prelude.{◌≡◌, ◌<◌, ◌≤◌, ℕ, List, [], ◌∷◌, None, IfOk, IfErr};
 ghost use Rattle.lock_world.specs.SlotHolds.{most_groups};
 ghost use Rattle.shared_rule.specs.Layout.{IsSized};
@@ -13,7 +14,7 @@ ghost use Rattle.modes_core.specs.Sessions.{most_sessions};
 use crate::board::Board;
 use crate::busy::Busy;
 use crate::kept::Kept;
-use crate::layout::wait_word;
+use crate::parks::park_waiting;
 use crate::rule::{Seat, TableSizes};
 use crate::table::{SharedTable, open};
 use crate::{counters, locks, partitions, sharing, slots, waits};
@@ -37,7 +38,7 @@ pub struct OneThread<T: PartTable> {
     ghost fits: { IsSized sizes table.shared.table_id },
     ghost sized: { sizes ≡ table.shared.key },
     ghost exists: { number < sizes.sessions },
-    ghost rests: { IsAtRest number seat.me.0 seat.me.1 },
+    ghost rests: { IsAtRest number (side_of seat).0 (side_of seat).1 },
 }
 
 impl<T: PartTable> OneThread<T> {
@@ -82,12 +83,12 @@ impl<T: PartTable> Board<T> for OneThread<T> {
           table = board.table.shared.table_id;
         } };
 
-    ghost view = { λ board. first_account T.content board.seat.me.0.sessions };
+    ghost view = { λ board. first_account T.content (side_of board.seat).0.sessions };
 
     ghost stack = { λ board.
-        record { parts = parts_in_hand board.seat.me.1; owed = first_owed board.seat.me.0.sessions } };
+        record { parts = parts_in_hand (side_of board.seat).1; owed = first_owed (side_of board.seat).0.sessions } };
 
-    ghost quiet = { λ board. first_quiet board.seat.me.0.sessions };
+    ghost quiet = { λ board. first_quiet (side_of board.seat).0.sessions };
 
     fn number(&self) -> SessionId {
         self.number
@@ -282,9 +283,9 @@ impl<T: PartTable> Board<T> for OneThread<T> {
         waits::leave_queue::<T, Brand>(&table.shared, &mut self.seat, self.number, woken, content);
     }
 
-    fn sleep<R: Wait>(&self, rt: &R, shown: u64) {
-        let low_bits = (shown & u64::from(u32::MAX)) as u32;
-        self.table.shared.park(rt, wait_word(self.number), low_bits);
+    fn sleep<R: Wait>(&mut self, rt: &R, shown: u64) {
+        let table = &self.table;
+        park_waiting::<T, Brand, R>(rt, &table.shared, &mut self.seat, self.number, shown);
     }
 
     fn wake(&mut self, other: SessionId) {

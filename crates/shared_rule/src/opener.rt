@@ -4,7 +4,7 @@ ghost use Rattle.std.specs.Prelude.{◌≡◌, ◌<◌, ◌≤◌, ◌+◌, ◌�
 ghost use Rattle.shared_rule.specs.History.{blank_account, lone, opening_view};
 ghost use Rattle.shared_rule.specs.Boards.{nothing_due};
 ghost use Rattle.shared_rule.specs.Layout.{IsSized};
-ghost use Rattle.shared_rule.specs.Plays.{FitsTable};
+ghost use Rattle.shared_rule.specs.Plays.{side_of, FitsTable};
 ghost use Rattle.shared_rule.specs.Openers.{HaveClosed, HasTakenBack};
 ghost use Rattle.shared_rule.specs.Seats.{MayCloseBy};
 ghost use Rattle.shared_rule.specs.declared.history.History.{History};
@@ -32,6 +32,7 @@ pub struct SeatOpener<T: PartTable> {
 impl<T: PartTable> Model for SeatOpener<T> {
     ghost use Rattle.std.specs.Prelude.{◌≡◌, ◌≤◌, Some};
     ghost use Rattle.shared_rule.specs.Boards.{AreFree};
+    ghost use Rattle.shared_rule.specs.Plays.{side_of};
     ghost use Rattle.shared_rule.specs.Openers.{OpenerState};
     ghost use Rattle.shared_rule.specs.Layout.{IsSized};
     ghost use Rattle.modes_core.specs.Sessions.{most_sessions};
@@ -43,20 +44,20 @@ impl<T: PartTable> Model for SeatOpener<T> {
       issued = opener.issued;
       limit = opener.sizes.sessions;
       groups = opener.sizes.groups;
-      closed = opener.seat.me.0.closed;
-      gathered = opener.seat.me.0.sessions;
+      closed = (side_of opener.seat).0.closed;
+      gathered = (side_of opener.seat).0.sessions;
     } };
 
     ghost invariant = { λ opener.
-        (opener.seat.me.0.next ≡ Some opener.issued) × (opener.issued ≤ opener.sizes.sessions)
+        ((side_of opener.seat).0.next ≡ Some opener.issued) × (opener.issued ≤ opener.sizes.sessions)
         × (opener.sizes.sessions ≤ most_sessions) × IsSized opener.sizes opener.seat.table_id
-        × AreFree opener.seat.me.0.sessions };
+        × AreFree (side_of opener.seat).0.sessions };
 }
 
 impl<T: PartTable> SeatOpener<T> {
     // The opener at its seat, who has given no number out.
     pub(crate) fn at(seat: Seat<T>, sizes: &TableSizes) -> SeatOpener<T>
-        requires first { seat.me ≡ (opening_view, []) }
+        requires first { side_of seat ≡ (opening_view, []) }
         requires sized { IsSized sizes.now seat.table_id }
         requires few { sizes.now.sessions ≤ most_sessions }
         ensures { result ≡ record {
@@ -82,7 +83,7 @@ impl<T: PartTable> SeatOpener<T> {
         requires first { self.issued ≡ 0 }
         requires some { 0 < self.limit }
         ensures table { FitsTable result table.now.key table.now.table_id }
-        ensures side { result.me ≡ (lone 0 [], []) }
+        ensures side { side_of result ≡ (lone 0 [], []) }
     {
         let SeatOpener {
             mut seat,

@@ -1,5 +1,6 @@
 //! The lock of a partition, as a session comes for it and as it puts it (`LockHashPartitionLock` in lock.h).
 
+ghost use Rattle.shared_rule.specs.Plays.{side_of};
 ghost use Rattle.lw_word.specs.declared.words.LwMode.TheVariants.{Exclusive};
 ghost use Rattle.lw_lock.specs.Since.{IsSince, Gains};
 ghost use Rattle.shared_rule.specs.declared.lw_locks.LwLock.TheVariants.{OfPart};
@@ -136,10 +137,10 @@ impl<'a, T: PartTable, M: Marking<T>> Held<Seat<T>, T> for PartInHand<'a, T, M> 
 
     ghost due = { λ it before after content. HasPut T.content it.words.now.key it.words.now.table_id
         (OfPart it.part) Exclusive before after (account_put T.content it.part it.done.now before content)
-        (rest before.me.1) };
+        (rest (side_of before).1) };
 
     ghost released = { λ it before after content. HasReleased T.content before after
-        (account_put T.content it.part it.done.now before content) (rest before.me.1) };
+        (account_put T.content it.part it.done.now before content) (rest (side_of before).1) };
 
     #[inline(always)]
     fn mode(&self) -> LwMode {

@@ -1,6 +1,6 @@
 //! The steps by which a session takes a partition's lightweight lock with its content, and puts both home.
 
-ghost use Rattle.std.specs.Prelude.{◌≡◌, ◌<◌, ◌∷◌, ℕ, None, IfSome, IfNone};
+ghost use Rattle.std.specs.Prelude.{◌≡◌, ◌<◌, ◌∷◌, ℕ, None, [], IfSome, IfNone};
 ghost use Rattle.atomic_table.specs.Table.{rest};
 ghost use Rattle.lw_word.specs.LightweightWord.{IsHeldByNobody, taken_word};
 ghost use Rattle.lock_world.specs.Account.{InHand};
@@ -20,7 +20,7 @@ ghost use Rattle.shared_rule.specs.Layout.{content_shelf_of};
 ghost use Rattle.shared_rule.specs.Lawful.{MayPutPart};
 ghost use Rattle.shared_rule.specs.Led.{Led, LedTo};
 ghost use Rattle.shared_rule.specs.LwLocks.{no_lists};
-ghost use Rattle.shared_rule.specs.Plays.{account_at, number_at, todo_at, FitsTable, HasSession, IsSameSeat};
+ghost use Rattle.shared_rule.specs.Plays.{account_at, number_at, todo_at, owed_at, FitsTable, HasSession, IsSameSeat, side_of};
 
 use crate::kept::Kept;
 use crate::layout::{content_shelf, partition_word};
@@ -45,7 +45,7 @@ fn attempt_part<T: PartTable, G: Sizing>(
 ) -> Option<T>
     requires table { FitsTable seat.old words.now.key words.now.table_id }
     requires exists { part < 16 }
-    requires session { HasSession seat.old.me.0 }
+    requires session { HasSession (side_of seat.old).0 }
     requires free { IsHeldByNobody shown × (taken ≡ taken_word shown) }
     requires sizes { G.sizes ≡ words.now.key }
     requires no_other_try { NoneOr (todo_at seat.old).tries (partition_lock part) }
@@ -53,9 +53,9 @@ fn attempt_part<T: PartTable, G: Sizing>(
     ensures same_seat { IsSameSeat seat.old seat.new }
     ensures lost { IfNone result (IsAsBefore T.content seat.old seat.new) }
     ensures won { IfSome result (TakesPartition T.content T.begun words.now.key.sessions part seat.old seat.new) }
-    ensures side { IfSome result (λ content. seat.new.me
-        ≡ (noting seat.old.me.0 (TookPart part content), (content_shelf_of part, Nothing) ∷ seat.old.me.1)) }
-    ensures unmoved { IfNone result (seat.new.me ≡ seat.old.me) }
+    ensures side { IfSome result (λ content. (side_of seat.new)
+        ≡ (noting (side_of seat.old).0 (TookPart part content), (content_shelf_of part, Nothing) ∷ (side_of seat.old).1)) }
+    ensures unmoved { IfNone result ((side_of seat.new) ≡ (side_of seat.old)) }
 {
     if words.compare_exchange::<TakesPart<G>>(seat, partition_word(part), shown, taken) != shown {
         return None;
@@ -76,15 +76,15 @@ pub(crate) fn attempt_free_part<T: PartTable>(
 ) -> Option<T>
     requires table { FitsTable seat.old words.now.key words.now.table_id }
     requires exists { part < 16 }
-    requires session { HasSession seat.old.me.0 }
+    requires session { HasSession (side_of seat.old).0 }
     requires no_other_try { NoneOr (todo_at seat.old).tries (partition_lock part) }
     requires no_other_list { NoneOr (account_at T.content seat.old).lists.stands (partition_lock part) }
     ensures same_seat { IsSameSeat seat.old seat.new }
     ensures lost { IfNone result (IsAsBefore T.content seat.old seat.new) }
     ensures won { IfSome result (TakesPartition T.content T.begun words.now.key.sessions part seat.old seat.new) }
-    ensures side { IfSome result (λ content. seat.new.me
-        ≡ (noting seat.old.me.0 (TookPart part content), (content_shelf_of part, Nothing) ∷ seat.old.me.1)) }
-    ensures unmoved { IfNone result (seat.new.me ≡ seat.old.me) }
+    ensures side { IfSome result (λ content. (side_of seat.new)
+        ≡ (noting (side_of seat.old).0 (TookPart part content), (content_shelf_of part, Nothing) ∷ (side_of seat.old).1)) }
+    ensures unmoved { IfNone result ((side_of seat.new) ≡ (side_of seat.old)) }
 {
     let shown = words.peek(partition_word(part));
     match taken(shown) {
@@ -103,12 +103,12 @@ pub(crate) fn take_part_alone<T: PartTable, R: Wait>(
 ) -> T
     requires table { FitsTable seat.old words.now.key words.now.table_id }
     requires exists { part < 16 }
-    requires session { HasSession seat.old.me.0 }
+    requires session { HasSession (side_of seat.old).0 }
     requires no_other_try { NoneOr (todo_at seat.old).tries (partition_lock part) }
     requires no_other_list { NoneOr (account_at T.content seat.old).lists.stands (partition_lock part) }
     ensures same_seat { IsSameSeat seat.old seat.new }
-    ensures side { seat.new.me
-        ≡ (noting seat.old.me.0 (TookPart part result), (content_shelf_of part, Nothing) ∷ seat.old.me.1) }
+    ensures side { (side_of seat.new)
+        ≡ (noting (side_of seat.old).0 (TookPart part result), (content_shelf_of part, Nothing) ∷ (side_of seat.old).1) }
     ensures none_begun { T.begun result ≡ None }
     ensures knows { KnowsContent (number_at seat.old) (account_at T.content seat.old) part (T.content result) }
 {
@@ -133,12 +133,13 @@ pub(crate) fn take_part<T: PartTable, R: Wait>(
 ) -> T
     requires table { FitsTable seat.old words.now.key words.now.table_id }
     requires exists { part < 16 }
-    requires session { HasSession seat.old.me.0 }
+    requires session { HasSession (side_of seat.old).0 }
     requires own { number ≡ number_at seat.old }
     requires among { number < words.now.key.sessions }
     requires idle { (account_at T.content seat.old).lists ≡ no_lists }
     requires todo { todo_at seat.old ≡ nothing_to_do }
     requires latest { IsLatestBy (account_at T.content seat.old) (OfPart part) }
+    requires wakes_nobody { owed_at seat.old ≡ [] }
     ensures { TakesPartition T.content T.begun words.now.key.sessions part seat.old seat.new result }
 {
     acquire(
@@ -163,8 +164,8 @@ pub(crate) fn put_part_home<T: PartTable, M: Marking<T>>(
 ) -> u64
     requires table { FitsTable seat.old words.now.key words.now.table_id }
     requires exists { part < 16 }
-    requires session { HasSession seat.old.me.0 }
-    requires in_hand { seat.old.me.1 ≡ (content_shelf_of part, Nothing) ∷ rest seat.old.me.1 }
+    requires session { HasSession (side_of seat.old).0 }
+    requires in_hand { (side_of seat.old).1 ≡ (content_shelf_of part, Nothing) ∷ rest (side_of seat.old).1 }
     requires none_begun { T.begun content ≡ None }
     requires lawful { (mine : InHand) × MayPutPart words.now.key.sessions (number_at seat.old)
         (account_at T.content seat.old) part mine done.now (T.content content) }
@@ -173,7 +174,7 @@ pub(crate) fn put_part_home<T: PartTable, M: Marking<T>>(
     ensures led { LedTo T.content seat.old seat.new (account_putting (account_at T.content seat.old) part
         (taken_of ((account_at T.content seat.old).hand part)) (T.content content) done.now)
         (todo_putting (todo_at seat.old) (partition_lock part) (put_in Exclusive (state_of result))) }
-    ensures shelves { seat.new.me.1 ≡ rest seat.old.me.1 }
+    ensures shelves { (side_of seat.new).1 ≡ rest (side_of seat.old).1 }
 {
     match words.exchange(seat, content_shelf(part), Kept::Part(content)) {
         Kept::Nothing => put_home_as::<T, M>(words, seat, partition_word(part)),
@@ -193,8 +194,8 @@ pub(crate) fn put_part<T: PartTable, M: Marking<T>>(
 )
     requires table { FitsTable seat.old words.now.key words.now.table_id }
     requires exists { part < 16 }
-    requires session { HasSession seat.old.me.0 }
-    requires in_hand { seat.old.me.1 ≡ (content_shelf_of part, Nothing) ∷ rest seat.old.me.1 }
+    requires session { HasSession (side_of seat.old).0 }
+    requires in_hand { (side_of seat.old).1 ≡ (content_shelf_of part, Nothing) ∷ rest (side_of seat.old).1 }
     requires none_begun { T.begun content ≡ None }
     requires lawful { (mine : InHand) × MayPutPart words.now.key.sessions (number_at seat.old)
         (account_at T.content seat.old) part mine done.now (T.content content) }
@@ -203,7 +204,7 @@ pub(crate) fn put_part<T: PartTable, M: Marking<T>>(
     requires mark { M.mark ≡ PutPart part done.now content }
     ensures led { Led T.content seat.old seat.new (account_putting (account_at T.content seat.old) part
         (taken_of ((account_at T.content seat.old).hand part)) (T.content content) done.now) }
-    ensures shelves { seat.new.me.1 ≡ rest seat.old.me.1 }
+    ensures shelves { (side_of seat.new).1 ≡ rest (side_of seat.old).1 }
 {
     release(
         seat,

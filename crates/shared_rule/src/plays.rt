@@ -1,6 +1,6 @@
 //! What a step on the table tells the session that makes it.
 
-use crate::history::{Mark, View};
+use crate::history::{Mark, PlacedView};
 use crate::kept::Kept;
 use atomic_table::Play;
 use lock_table::PartTable;
@@ -37,10 +37,10 @@ pub struct Marks<M> {
     of: PhantomData<M>,
 }
 
-impl<T, M: Marking<T>> Play<Kept<T>, View<T>> for Marks<M> {
-    ghost use Rattle.shared_rule.specs.Plays.{Marked};
+impl<T, M: Marking<T>> Play<Kept<T>, PlacedView<T>> for Marks<M> {
+    ghost use Rattle.shared_rule.specs.Plays.{Unplaced, Marked};
 
-    ghost then = { Marked M.mark };
+    ghost then = { Unplaced (Marked M.mark) };
 }
 
 /// A step that leaves its mark and puts home the content in hand.
@@ -48,10 +48,10 @@ pub struct PutsHome<M> {
     of: PhantomData<M>,
 }
 
-impl<T, M: Marking<T>> Play<Kept<T>, View<T>> for PutsHome<M> {
-    ghost use Rattle.shared_rule.specs.Plays.{WentHome};
+impl<T, M: Marking<T>> Play<Kept<T>, PlacedView<T>> for PutsHome<M> {
+    ghost use Rattle.shared_rule.specs.Plays.{Unplaced, WentHome};
 
-    ghost then = { WentHome M.mark };
+    ghost then = { Unplaced (WentHome M.mark) };
 }
 
 /// An exchange that takes a partition in hand where it finds the number that it expects, and else changes
@@ -60,10 +60,10 @@ pub struct TakesPart<G> {
     of: PhantomData<G>,
 }
 
-impl<T: PartTable, G: Sizing> Play<Kept<T>, View<T>> for TakesPart<G> {
-    ghost use Rattle.shared_rule.specs.Plays.{TookPartition};
+impl<T: PartTable, G: Sizing> Play<Kept<T>, PlacedView<T>> for TakesPart<G> {
+    ghost use Rattle.shared_rule.specs.Plays.{Unplaced, TookPartition};
 
-    ghost then = { TookPartition T.content T.begun G.sizes.sessions };
+    ghost then = { Unplaced (TookPartition T.content T.begun G.sizes.sessions) };
 }
 
 /// A load or a fetch operation that leaves its mark, and shows what the session's account knows of the number
@@ -72,10 +72,10 @@ pub struct Looks<M> {
     of: PhantomData<M>,
 }
 
-impl<T: PartTable, M: Marking<T>> Play<Kept<T>, View<T>> for Looks<M> {
-    ghost use Rattle.shared_rule.specs.Plays.{Looked};
+impl<T: PartTable, M: Marking<T>> Play<Kept<T>, PlacedView<T>> for Looks<M> {
+    ghost use Rattle.shared_rule.specs.Plays.{Unplaced, Looked};
 
-    ghost then = { Looked T.content M.mark };
+    ghost then = { Unplaced (Looked T.content M.mark) };
 }
 
 /// An exchange that takes the lock of a session's slots where it finds the number that it expects, and else
@@ -84,10 +84,10 @@ pub struct TakesSlots<G> {
     of: PhantomData<G>,
 }
 
-impl<T: PartTable, G: Sizing> Play<Kept<T>, View<T>> for TakesSlots<G> {
-    ghost use Rattle.shared_rule.specs.Plays.{TookSlotsOr, unnoted};
+impl<T: PartTable, G: Sizing> Play<Kept<T>, PlacedView<T>> for TakesSlots<G> {
+    ghost use Rattle.shared_rule.specs.Plays.{Unplaced, TookSlotsOr, unnoted};
 
-    ghost then = { TookSlotsOr T.content G.sizes.groups unnoted };
+    ghost then = { Unplaced (TookSlotsOr T.content G.sizes.groups unnoted) };
 }
 
 /// An exchange that shares the lock of a session's slots where it finds the number that it expects, and else
@@ -96,10 +96,10 @@ pub struct SharesSlots<G> {
     of: PhantomData<G>,
 }
 
-impl<T: PartTable, G: Sizing> Play<Kept<T>, View<T>> for SharesSlots<G> {
-    ghost use Rattle.shared_rule.specs.Plays.{SharedSlotsOr, unnoted};
+impl<T: PartTable, G: Sizing> Play<Kept<T>, PlacedView<T>> for SharesSlots<G> {
+    ghost use Rattle.shared_rule.specs.Plays.{Unplaced, SharedSlotsOr, unnoted};
 
-    ghost then = { SharedSlotsOr T.content G.sizes.groups unnoted };
+    ghost then = { Unplaced (SharedSlotsOr T.content G.sizes.groups unnoted) };
 }
 
 /// An exchange that takes the lock of the session's own slots, as `TakesSlots` does, where a lost exchange is
@@ -108,10 +108,10 @@ pub struct TriesSlots<G> {
     of: PhantomData<G>,
 }
 
-impl<T: PartTable, G: Sizing> Play<Kept<T>, View<T>> for TriesSlots<G> {
-    ghost use Rattle.shared_rule.specs.Plays.{TookSlotsOr, noted_load};
+impl<T: PartTable, G: Sizing> Play<Kept<T>, PlacedView<T>> for TriesSlots<G> {
+    ghost use Rattle.shared_rule.specs.Plays.{Unplaced, TookSlotsOr, noted_load};
 
-    ghost then = { TookSlotsOr T.content G.sizes.groups noted_load };
+    ghost then = { Unplaced (TookSlotsOr T.content G.sizes.groups noted_load) };
 }
 
 /// A fetch-or of a word's list bit that takes the wait list in hand where it finds the bit not set, and else
@@ -120,40 +120,42 @@ pub struct LocksList<G> {
     of: PhantomData<G>,
 }
 
-impl<T: PartTable, G: Sizing> Play<Kept<T>, View<T>> for LocksList<G> {
-    ghost use Rattle.shared_rule.specs.Plays.{LockedListOr};
+impl<T: PartTable, G: Sizing> Play<Kept<T>, PlacedView<T>> for LocksList<G> {
+    ghost use Rattle.shared_rule.specs.Plays.{Unplaced, LockedListOr};
 
-    ghost then = { LockedListOr T.content G.sizes.sessions };
+    ghost then = { Unplaced (LockedListOr T.content G.sizes.sessions) };
 }
 
 /// A load of a lightweight word that is noted as a look where it shows that somebody holds the lock, and else
 /// changes nothing.
 pub struct SeesHeld;
 
-impl<T> Play<Kept<T>, View<T>> for SeesHeld {
-    ghost use Rattle.shared_rule.specs.Plays.{SawHeldOr};
+impl<T> Play<Kept<T>, PlacedView<T>> for SeesHeld {
+    ghost use Rattle.shared_rule.specs.Plays.{Unplaced, SawHeldOr};
 
-    ghost then = { SawHeldOr };
+    ghost then = { Unplaced SawHeldOr };
 }
 
 /// A load that changes nothing, and shows the opener that each session that has closed was given out, and
 /// closed once.
 pub struct TellsClosed;
 
-impl<T> Play<Kept<T>, View<T>> for TellsClosed {
+impl<T> Play<Kept<T>, PlacedView<T>> for TellsClosed {
+    ghost use Rattle.shared_rule.specs.Plays.{Unplaced};
     ghost use Rattle.shared_rule.specs.Seats.{ToldClosed};
 
-    ghost then = { ToldClosed };
+    ghost then = { Unplaced ToldClosed };
 }
 
 /// A load that changes nothing, and shows that no hold of a seat's first session conflicts with a hold of its
 /// second one.
 pub struct TellsApart;
 
-impl<T: PartTable> Play<Kept<T>, View<T>> for TellsApart {
+impl<T: PartTable> Play<Kept<T>, PlacedView<T>> for TellsApart {
+    ghost use Rattle.shared_rule.specs.Plays.{Unplaced};
     ghost use Rattle.shared_rule.specs.Seats.{ToldApart};
 
-    ghost then = { ToldApart T.content };
+    ghost then = { Unplaced (ToldApart T.content) };
 }
 
 /// A load that leaves its mark, and shows what a seat at which all open sessions are gathered knows of the
@@ -162,10 +164,11 @@ pub struct LooksOver<M> {
     of: PhantomData<M>,
 }
 
-impl<T: PartTable, M: Marking<T>> Play<Kept<T>, View<T>> for LooksOver<M> {
+impl<T: PartTable, M: Marking<T>> Play<Kept<T>, PlacedView<T>> for LooksOver<M> {
+    ghost use Rattle.shared_rule.specs.Plays.{Unplaced};
     ghost use Rattle.shared_rule.specs.Gatherings.{LookedOver};
 
-    ghost then = { LookedOver T.content M.mark };
+    ghost then = { Unplaced (LookedOver T.content M.mark) };
 }
 
 /// A load that changes nothing, and shows a seat at which all open sessions are gathered who they are, and
@@ -174,8 +177,9 @@ pub struct TellsAll<G> {
     of: PhantomData<G>,
 }
 
-impl<T: PartTable, G: Sizing> Play<Kept<T>, View<T>> for TellsAll<G> {
+impl<T: PartTable, G: Sizing> Play<Kept<T>, PlacedView<T>> for TellsAll<G> {
+    ghost use Rattle.shared_rule.specs.Plays.{Unplaced};
     ghost use Rattle.shared_rule.specs.Gatherings.{ToldAll};
 
-    ghost then = { ToldAll T.content G.sizes.groups };
+    ghost then = { Unplaced (ToldAll T.content G.sizes.groups) };
 }

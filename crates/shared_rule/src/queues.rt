@@ -12,10 +12,11 @@
 //!
 //! A winner leaves the list that it stands in and no other (`dequeue_self`). A session that unlocks a list
 //! leaves has-waiters where somebody waits there, and release-ok where it took nobody off (`unlock_list`).
-//! All sessions take locks in one order. No clause tells that a session that is told is woken by the kernel,
-//! after its sleep word shows 0, and that `park` looks at the word again there.
+//! All sessions take locks in one order. A session parks in `park_on` of `parks` alone, once it has nothing
+//! left to do for others. No clause tells that a session that is told is woken by the kernel, after its sleep
+//! word shows 0, and that `park` looks at the word again there.
 
-ghost use Rattle.std.specs.Prelude.{◌≡◌, ◌<◌, ◌∷◌, true, None, Some};
+ghost use Rattle.std.specs.Prelude.{◌≡◌, ◌<◌, [], ◌∷◌, true, None, Some};
 ghost use Rattle.lw_word.specs.WaitList.{stands_in};
 ghost use Rattle.lock_world.specs.AccountSteps.{account_locking_list};
 ghost use Rattle.shared_rule.specs.declared.kept.Kept.TheVariants.{Nothing};
@@ -25,13 +26,13 @@ ghost use Rattle.shared_rule.specs.Todos.{HasBy, IsLatestBy, MaySleepBy, TellsNo
 ghost use Rattle.shared_rule.specs.Todos.{nothing_to_do, todo_in_list, todo_got, todo_back};
 ghost use Rattle.shared_rule.specs.LwLocks.{lock_number, LockExists, no_lists, queued_for};
 ghost use Rattle.shared_rule.specs.Waiters.{WaitersExist};
-ghost use Rattle.shared_rule.specs.Plays.{account_at, number_at, todo_at, FitsTable, HasSession};
+ghost use Rattle.shared_rule.specs.Plays.{account_at, number_at, todo_at, owed_at, FitsTable, HasSession, side_of};
 
-use crate::layout::sleep_word;
 use crate::lists::{
     join_list, leave_list, load_sleep, set_has_waiters, set_release_ok, try_lock_list, unlock_list,
 };
 use crate::lw_locks::LwLock;
+use crate::parks::park_asleep;
 use crate::rule::{Seat, SharedWords};
 use crossbeam_utils::Backoff;
 use lock_table::PartTable;
@@ -50,13 +51,13 @@ fn lock_list<T: PartTable, R: Wait>(
 ) -> Box<WaitList>
     requires table { FitsTable seat.old words.now.key words.now.table_id }
     requires exists { LockExists words.now.key.sessions lock.now }
-    requires session { HasSession seat.old.me.0 }
+    requires session { HasSession (side_of seat.old).0 }
     requires no_list { (account_at T.content seat.old).lists.in_hand ≡ None }
     requires no_look { (todo_at seat.old).due ≡ None }
     requires tells_nobody { TellsNobodyBy (account_at T.content seat.old) }
     ensures led { Led T.content seat.old seat.new
         (account_locking_list (account_at T.content seat.old) (lock_number lock.now) result.value.waiters) }
-    ensures shelves { seat.new.me.1 ≡ (list_shelf_of (lock_number lock.now), Nothing) ∷ seat.old.me.1 }
+    ensures shelves { (side_of seat.new).1 ≡ (list_shelf_of (lock_number lock.now), Nothing) ∷ (side_of seat.old).1 }
     ensures stands { stands_in (number_at seat.old) result.value.waiters ≡ true
         → (account_at T.content seat.old).lists.stands ≡ Some (lock_number lock.now) }
     ensures room { result.value.room ≡ words.now.key.sessions }
@@ -86,7 +87,7 @@ pub(crate) fn queue_self<T: PartTable, R: Wait>(
 )
     requires table { FitsTable seat.old words.now.key words.now.table_id }
     requires exists { LockExists words.now.key.sessions lock.now }
-    requires session { HasSession seat.old.me.0 }
+    requires session { HasSession (side_of seat.old).0 }
     requires own { number ≡ number_at seat.old }
     requires among { number < words.now.key.sessions }
     requires idle { (account_at T.content seat.old).lists ≡ no_lists }
@@ -95,7 +96,7 @@ pub(crate) fn queue_self<T: PartTable, R: Wait>(
     ensures led { LedTo T.content seat.old seat.new
         (record (account_at T.content seat.old) { lists = queued_for (lock_number lock.now) })
         (todo_in_list (lock_number lock.now)) }
-    ensures shelves { seat.new.me.1 ≡ seat.old.me.1 }
+    ensures shelves { (side_of seat.new).1 ≡ (side_of seat.old).1 }
 {
     let mut list = lock_list(rt, words, seat, lock);
     set_has_waiters::<T, Brand>(words, seat, lock);
@@ -105,9 +106,7 @@ pub(crate) fn queue_self<T: PartTable, R: Wait>(
 }
 
 /// Sleeps until the sleep word of the session `number`, its own, shows 0: the session that took it off its
-/// wait list has said so there (the sleep on the semaphore in `LWLockAcquire` in lwlock.c). The kernel
-/// compares the word before a thread sleeps, so a change of the word that comes meanwhile is not slept
-/// through.
+/// wait list has said so there (the sleep on the semaphore in `LWLockAcquire` in lwlock.c).
 pub(crate) fn sleep_until_told<T: PartTable, R: Wait>(
     rt: &R,
     words: &SharedWords<T>,
@@ -115,22 +114,21 @@ pub(crate) fn sleep_until_told<T: PartTable, R: Wait>(
     number: SessionId,
 )
     requires table { FitsTable seat.old words.now.key words.now.table_id }
-    requires session { HasSession seat.old.me.0 }
+    requires session { HasSession (side_of seat.old).0 }
     requires own { number ≡ number_at seat.old }
     requires among { number < words.now.key.sessions }
-    requires may { MaySleepBy (account_at T.content seat.old) (todo_at seat.old) }
+    requires may { MaySleepBy (account_at T.content seat.old) (todo_at seat.old) (owed_at seat.old) }
     ensures led { Led T.content seat.old seat.new (record (account_at T.content seat.old) {
       lists = record ((account_at T.content seat.old).lists) { stands = None };
     }) }
-    ensures shelves { seat.new.me.1 ≡ seat.old.me.1 }
+    ensures shelves { (side_of seat.new).1 ≡ (side_of seat.old).1 }
 {
     for _ in rt.forever() {
         let shown = load_sleep(words, seat, number);
         if shown == SleepState::NotWaiting as u64 {
             return;
         }
-        let low_bits = (shown & u64::from(u32::MAX)) as u32;
-        words.park(rt, sleep_word(number), low_bits);
+        park_asleep::<T, Brand, R>(rt, words, seat, number, shown);
     }
     unreachable!()
 }
@@ -148,15 +146,16 @@ pub(crate) fn dequeue_self<T: PartTable, R: Wait>(
 )
     requires table { FitsTable seat.old words.now.key words.now.table_id }
     requires exists { LockExists words.now.key.sessions lock.now }
-    requires session { HasSession seat.old.me.0 }
+    requires session { HasSession (side_of seat.old).0 }
     requires own { number ≡ number_at seat.old }
     requires among { number < words.now.key.sessions }
     requires queued { (account_at T.content seat.old).lists ≡ queued_for (lock_number lock.now) }
     requires got { HasBy (account_at T.content seat.old) lock.now }
     requires todo { todo_at seat.old ≡ todo_got (lock_number lock.now) }
+    requires wakes_nobody { owed_at seat.old ≡ [] }
     ensures led { LedTo T.content seat.old seat.new
         (record (account_at T.content seat.old) { lists = no_lists }) nothing_to_do }
-    ensures shelves { seat.new.me.1 ≡ seat.old.me.1 }
+    ensures shelves { (side_of seat.new).1 ≡ (side_of seat.old).1 }
 {
     let mut list = lock_list(rt, words, seat, lock);
     if list.leave(number) {
@@ -165,7 +164,8 @@ pub(crate) fn dequeue_self<T: PartTable, R: Wait>(
         unlock_list(words, seat, lock, list, some_left, true);
     } else {
         set_release_ok::<T, Brand>(words, seat, lock);
-        unlock_list(words, seat, lock, list, true, true);
+        let others = !list.is_empty();
+        unlock_list(words, seat, lock, list, others, true);
         sleep_until_told(rt, words, seat, number);
     }
 }
@@ -182,14 +182,16 @@ pub(crate) fn sleep_for<T: PartTable, R: Wait>(
 )
     requires table { FitsTable seat.old words.now.key words.now.table_id }
     requires exists { LockExists words.now.key.sessions lock.now }
-    requires session { HasSession seat.old.me.0 }
+    requires session { HasSession (side_of seat.old).0 }
     requires own { number ≡ number_at seat.old }
     requires among { number < words.now.key.sessions }
     requires queued { (account_at T.content seat.old).lists ≡ queued_for (lock_number lock.now) }
     requires todo { todo_at seat.old ≡ todo_got (lock_number lock.now) }
+    requires latest { IsLatestBy (account_at T.content seat.old) lock.now }
+    requires wakes_nobody { owed_at seat.old ≡ [] }
     ensures led { LedTo T.content seat.old seat.new
         (record (account_at T.content seat.old) { lists = no_lists }) (todo_back (lock_number lock.now)) }
-    ensures shelves { seat.new.me.1 ≡ seat.old.me.1 }
+    ensures shelves { (side_of seat.new).1 ≡ (side_of seat.old).1 }
 {
     sleep_until_told(rt, words, seat, number);
     set_release_ok::<T, Brand>(words, seat, lock);

@@ -1,7 +1,7 @@
 //! The rule of the table: between any two steps its words, its contents and all histories show a World that
 //! is safe.
 
-use crate::history::View;
+use crate::history::PlacedView;
 use crate::kept::Kept;
 use atomic_table::{Shared, TableRule};
 use lock_table::PartTable;
@@ -17,22 +17,22 @@ pub struct TableSizes {
 }
 
 /// The rule of the shared table, which holds between any two steps of all sessions: words, contents and the
-/// sessions' histories agree, and show a safe World.
+/// sessions' histories agree, and show a safe World, and the last step of each session is in its place among
+/// the steps of all.
 pub struct LockTableRule;
 
 /// Each partition's content, and each lightweight lock's wait list, has a shelf of its own, and lies on that
 /// shelf while nobody has it in hand. The shelves between stay unused.
-impl<T: PartTable> TableRule<Kept<T>, View<T>, TableSizes> for LockTableRule {
-    ghost use Rattle.shared_rule.specs.Ruled.{Ruled};
-    ghost use Rattle.shared_rule.specs.History.{opening_view};
+impl<T: PartTable> TableRule<Kept<T>, PlacedView<T>, TableSizes> for LockTableRule {
+    ghost use Rattle.shared_rule.specs.Places.{RuledInOrder, opening_in_place};
 
-    ghost holds = { λ sizes state. Ruled T.content T.begun sizes state };
+    ghost holds = { λ sizes state. RuledInOrder T.content T.begun sizes state };
 
-    ghost first = { λ sizes. opening_view };
+    ghost first = { λ sizes. opening_in_place };
 }
 
 /// The table as sessions share it: its words, with the shelves for contents and wait lists.
-pub type SharedWords<T> = Shared<Kept<T>, View<T>, TableSizes, LockTableRule>;
+pub type SharedWords<T> = Shared<Kept<T>, PlacedView<T>, TableSizes, LockTableRule>;
 
 /// A seat at the shared table: one session's, or the opener's.
-pub type Seat<T> = atomic_table::Seat<Kept<T>, View<T>>;
+pub type Seat<T> = atomic_table::Seat<Kept<T>, PlacedView<T>>;

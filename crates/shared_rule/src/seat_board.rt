@@ -1,9 +1,9 @@
 //! The board that threads run: a seat at the shared table.
 
-ghost use Rattle.std.specs.Prelude.{◌≡◌, ◌<◌, ◌≤◌, ℕ, List, [], ◌∷◌, None};
+ghost use Rattle.std.specs.Prelude.{◌≡◌, ◌≢◌, ◌<◌, ◌≤◌, ℕ, List, [], ◌∷◌, None};
 ghost use Rattle.shared_rule.specs.Layout.{IsSized};
 ghost use Rattle.shared_rule.specs.History.{first_account, lone};
-ghost use Rattle.shared_rule.specs.Plays.{FitsTable};
+ghost use Rattle.shared_rule.specs.Plays.{side_of, FitsTable};
 ghost use Rattle.shared_rule.specs.Seats.{DoNotConflict, MayBeKeptApartBy};
 ghost use Rattle.shared_rule.specs.Boards.{Seated, nothing_due, parts_in_hand, first_marks, IsIdle, IsAtRest};
 ghost use Rattle.shared_rule.specs.Owed.{first_owed};
@@ -11,7 +11,7 @@ ghost use Rattle.shared_rule.specs.Quiet.{first_quiet};
 
 use crate::board::Board;
 use crate::busy::Busy;
-use crate::layout::wait_word;
+use crate::parks::park_waiting;
 use crate::rule::{Seat, SharedWords, TableSizes};
 use crate::{counters, locks, partitions, seats, sharing, slots, waits};
 use lock_table::{Move, PartTable};
@@ -31,7 +31,7 @@ pub struct SeatBoard<'a, T: PartTable> {
     ghost fits: { IsSized sizes table.now.table_id },
     ghost sized: { sizes ≡ table.now.key },
     ghost exists: { number < sizes.sessions },
-    ghost rests: { IsAtRest number seat.me.0 seat.me.1 },
+    ghost rests: { IsAtRest number (side_of seat).0 (side_of seat).1 },
 }
 
 impl<'a, T: PartTable> SeatBoard<'a, T> {
@@ -45,9 +45,9 @@ impl<'a, T: PartTable> SeatBoard<'a, T> {
         requires table { FitsTable seat table.now.key table.now.table_id }
         requires sized { sizes ≡ table.now.key }
         requires exists { number < sizes.sessions }
-        requires lone { seat.me.0 ≡ lone number (first_marks seat.me.0.sessions) }
-        requires out { seat.me.1 ≡ [] }
-        requires idle { IsIdle seat.me.0.sessions }
+        requires lone { (side_of seat).0 ≡ lone number (first_marks (side_of seat).0.sessions) }
+        requires out { (side_of seat).1 ≡ [] }
+        requires idle { IsIdle (side_of seat).0.sessions }
         ensures { (result.table.now ≡ table.now) × (result.seat ≡ seat) × (result.number ≡ number)
             × (result.sizes ≡ sizes) }
     {
@@ -59,13 +59,16 @@ impl<'a, T: PartTable> SeatBoard<'a, T> {
         }
     }
 
-    /// Has the board's session meet `other`, a session of the same table, whose board comes back: no hold of
-    /// the one session conflicts with a hold of the other on an object. The accounts of both are as before.
+    /// Has the board's session meet `other`, a session of the same table, whose board comes back: the two
+    /// have different numbers, and no hold of the one conflicts with a hold of the other on an object. The
+    /// accounts of both are as before.
     pub fn meet(&mut self, other: SeatBoard<'a, T>) -> SeatBoard<'a, T>
         requires table { (⟦<SeatBoard<'a, T> as Board<T>>⟧.seat other).table
             ≡ (⟦<SeatBoard<'a, T> as Board<T>>⟧.seat self.old).table }
         requires stack { ⟦<SeatBoard<'a, T> as Board<T>>⟧.stack other ≡ nothing_due }
         requires no_word { MayBeKeptApartBy (⟦<SeatBoard<'a, T> as Board<T>>⟧.view other) }
+        ensures apart { (⟦<SeatBoard<'a, T> as Board<T>>⟧.seat self.old).number
+            ≢ (⟦<SeatBoard<'a, T> as Board<T>>⟧.seat other.entry).number }
         ensures told { DoNotConflict (⟦<SeatBoard<'a, T> as Board<T>>⟧.view self.old)
             (⟦<SeatBoard<'a, T> as Board<T>>⟧.view other.entry) }
         ensures view { ⟦<SeatBoard<'a, T> as Board<T>>⟧.view self.new
@@ -131,12 +134,12 @@ impl<'a, T: PartTable> Board<T> for SeatBoard<'a, T> {
           table = board.table.now.table_id;
         } };
 
-    ghost view = { λ board. first_account T.content board.seat.me.0.sessions };
+    ghost view = { λ board. first_account T.content (side_of board.seat).0.sessions };
 
     ghost stack = { λ board.
-        record { parts = parts_in_hand board.seat.me.1; owed = first_owed board.seat.me.0.sessions } };
+        record { parts = parts_in_hand (side_of board.seat).1; owed = first_owed (side_of board.seat).0.sessions } };
 
-    ghost quiet = { λ board. first_quiet board.seat.me.0.sessions };
+    ghost quiet = { λ board. first_quiet (side_of board.seat).0.sessions };
 
     fn number(&self) -> SessionId {
         self.number
@@ -295,9 +298,8 @@ impl<'a, T: PartTable> Board<T> for SeatBoard<'a, T> {
         waits::leave_queue::<T, Brand>(self.table, &mut self.seat, self.number, woken, content);
     }
 
-    fn sleep<R: Wait>(&self, rt: &R, shown: u64) {
-        let low_bits = (shown & u64::from(u32::MAX)) as u32;
-        self.table.park(rt, wait_word(self.number), low_bits);
+    fn sleep<R: Wait>(&mut self, rt: &R, shown: u64) {
+        park_waiting::<T, Brand, R>(rt, self.table, &mut self.seat, self.number, shown);
     }
 
     fn wake(&mut self, other: SessionId) {

@@ -2,7 +2,7 @@
 //! and nobody write them.
 
 ghost use Rattle.std.specs.Bool.{OnTrue, OnFalse};
-ghost use Rattle.std.specs.Prelude.{◌≡◌, ◌<◌, None};
+ghost use Rattle.std.specs.Prelude.{◌≡◌, ◌<◌, None, []};
 ghost use Rattle.lw_word.specs.declared.words.LwMode.TheVariants.{Shared};
 ghost use Rattle.lw_word.specs.LightweightWord.{IsFreeToShare, shared_word};
 ghost use Rattle.lock_world.specs.Account.{SlotsInHand};
@@ -17,7 +17,7 @@ ghost use Rattle.lock_world.specs.WaitLists.{fast_lock};
 ghost use Rattle.lock_world.specs.Wakes.Waking.{NoneOr};
 ghost use Rattle.lw_word.specs.LockState.{state_of, put_in};
 ghost use Rattle.shared_rule.specs.LwLocks.{no_lists};
-ghost use Rattle.shared_rule.specs.Plays.{account_at, number_at, todo_at, FitsTable, HasSession, IsSameSeat};
+ghost use Rattle.shared_rule.specs.Plays.{account_at, number_at, todo_at, owed_at, FitsTable, HasSession, IsSameSeat, side_of};
 
 use crate::layout::fast_word;
 use crate::plays::{Marking, SharesSlots, Sizing};
@@ -43,7 +43,7 @@ fn attempt_share<T: PartTable, G: Sizing>(
 ) -> bool
     requires table { FitsTable seat.old words.now.key words.now.table_id }
     requires exists { owner < words.now.key.sessions }
-    requires session { HasSession seat.old.me.0 }
+    requires session { HasSession (side_of seat.old).0 }
     requires lawful { MayShareFastBy (account_at T.content seat.old) owner }
     requires no_other_try { NoneOr (todo_at seat.old).tries (fast_lock owner) }
     requires no_other_list { NoneOr (account_at T.content seat.old).lists.stands (fast_lock owner) }
@@ -69,7 +69,7 @@ pub(crate) fn attempt_free_share<T: PartTable>(
 ) -> bool
     requires table { FitsTable seat.old words.now.key words.now.table_id }
     requires exists { owner < words.now.key.sessions }
-    requires session { HasSession seat.old.me.0 }
+    requires session { HasSession (side_of seat.old).0 }
     requires lawful { MayShareFastBy (account_at T.content seat.old) owner }
     requires no_other_try { NoneOr (todo_at seat.old).tries (fast_lock owner) }
     requires no_other_list { NoneOr (account_at T.content seat.old).lists.stands (fast_lock owner) }
@@ -97,13 +97,14 @@ pub(crate) fn share_fast<T: PartTable, R: Wait>(
 )
     requires table { FitsTable seat.old words.now.key words.now.table_id }
     requires exists { owner < words.now.key.sessions }
-    requires session { HasSession seat.old.me.0 }
+    requires session { HasSession (side_of seat.old).0 }
     requires own { number ≡ number_at seat.old }
     requires among { number < words.now.key.sessions }
     requires lawful { MayShareFastBy (account_at T.content seat.old) owner }
     requires idle { (account_at T.content seat.old).lists ≡ no_lists }
     requires todo { todo_at seat.old ≡ nothing_to_do }
     requires latest { IsLatestBy (account_at T.content seat.old) (OfSlots owner) }
+    requires wakes_nobody { owed_at seat.old ≡ [] }
     ensures { GetsSlots T.content words.now.key.groups Shared owner seat.old seat.new }
 {
     let mode = LwMode::Shared;
@@ -127,14 +128,14 @@ pub(crate) fn unshare_fast_home<T: PartTable, M: Marking<T>>(
 ) -> u64
     requires table { FitsTable seat.old words.now.key words.now.table_id }
     requires exists { owner < words.now.key.sessions }
-    requires session { HasSession seat.old.me.0 }
+    requires session { HasSession (side_of seat.old).0 }
     requires lawful { (slots : SlotsInHand) × MayUnshareFastBy (account_at T.content seat.old) owner slots }
     requires no_look { (todo_at seat.old).due ≡ None }
     requires mark { M.mark ≡ UnsharedFast owner }
     ensures led { LedTo T.content seat.old seat.new
         (account_unsharing_fast (account_at T.content seat.old) owner)
         (todo_putting (todo_at seat.old) (fast_lock owner) (put_in Shared (state_of result))) }
-    ensures shelves { seat.new.me.1 ≡ seat.old.me.1 }
+    ensures shelves { (side_of seat.new).1 ≡ (side_of seat.old).1 }
 {
     fetch_sub_as::<T, M>(words, seat, fast_word(owner), LwMode::Shared.amount())
 }
@@ -148,14 +149,14 @@ pub(crate) fn unshare_fast<T: PartTable, M: Marking<T>>(
 )
     requires table { FitsTable seat.old words.now.key words.now.table_id }
     requires exists { owner < words.now.key.sessions }
-    requires session { HasSession seat.old.me.0 }
+    requires session { HasSession (side_of seat.old).0 }
     requires lawful { (slots : SlotsInHand) × MayUnshareFastBy (account_at T.content seat.old) owner slots }
     requires idle { (account_at T.content seat.old).lists ≡ no_lists }
     requires todo { todo_at seat.old ≡ nothing_to_do }
     requires mark { M.mark ≡ UnsharedFast owner }
     ensures led { Led T.content seat.old seat.new
         (account_unsharing_fast (account_at T.content seat.old) owner) }
-    ensures shelves { seat.new.me.1 ≡ seat.old.me.1 }
+    ensures shelves { (side_of seat.new).1 ≡ (side_of seat.old).1 }
 {
     let of = PhantomData::<M>;
     release(seat, &SlotsShared { words, owner, of }, ());

@@ -8,7 +8,7 @@ ghost use Rattle.shared_rule.specs.declared.lw_locks.LwLock.TheVariants.{OfSlots
 ghost use Rattle.shared_rule.specs.Waiting.{sought_of, IsOnWay};
 ghost use Rattle.lock_world.specs.Wakes.Waking.{NoneOr};
 ghost use Rattle.shared_rule.specs.Acquires.{IsAsBefore, MayGetSlots, GetsSlots};
-ghost use Rattle.shared_rule.specs.Plays.{account_at, todo_at, FitsTable, HasSession};
+ghost use Rattle.shared_rule.specs.Plays.{side_of, account_at, todo_at, FitsTable, HasSession};
 
 use crate::lists::look_at_lock;
 use crate::locks::{attempt_free_fast, pass_fast_home, put_fast_home};
@@ -41,7 +41,7 @@ impl<'a, T: PartTable> SlotsLock<'a, T> {
     fn attempt_free(&self, seat: &mut Seat<T>) -> Option<()>
         requires table { FitsTable seat.old self.now.words.now.key self.now.words.now.table_id }
         requires exists { self.now.owner < self.now.words.now.key.sessions }
-        requires session { HasSession seat.old.me.0 }
+        requires session { HasSession (side_of seat.old).0 }
         requires lawful { MayGetSlots self.now.mode (account_at T.content seat.old) self.now.owner }
         requires no_other_try { NoneOr (todo_at seat.old).tries (fast_lock self.now.owner) }
         requires no_other_list { NoneOr (account_at T.content seat.old).lists.stands (fast_lock self.now.owner) }
@@ -171,10 +171,10 @@ impl<'a, T: PartTable, M: Marking<T>> Held<Seat<T>, ()> for SlotsTaken<'a, T, M>
 
     ghost due = { λ it before after _. HasPut T.content it.words.now.key it.words.now.table_id (OfSlots it.owner)
         Exclusive before after (account_putting_fast (number_at before) (account_at T.content before) it.owner)
-        before.me.1 };
+        (side_of before).1 };
 
     ghost released = { λ it before after _. HasReleased T.content before after
-        (account_putting_fast (number_at before) (account_at T.content before) it.owner) before.me.1 };
+        (account_putting_fast (number_at before) (account_at T.content before) it.owner) (side_of before).1 };
 
     #[inline(always)]
     fn mode(&self) -> LwMode {
@@ -221,10 +221,10 @@ impl<'a, T: PartTable, M: Marking<T>> Held<Seat<T>, ()> for SlotsPassed<'a, T, M
 
     ghost due = { λ it before after _. HasPut T.content it.words.now.key it.words.now.table_id (OfSlots it.owner)
         Exclusive before after
-        (account_passing (number_at before) (account_at T.content before) it.owner it.tag.now it.mode) before.me.1 };
+        (account_passing (number_at before) (account_at T.content before) it.owner it.tag.now it.mode) (side_of before).1 };
 
     ghost released = { λ it before after _. HasReleased T.content before after
-        (account_passing (number_at before) (account_at T.content before) it.owner it.tag.now it.mode) before.me.1 };
+        (account_passing (number_at before) (account_at T.content before) it.owner it.tag.now it.mode) (side_of before).1 };
 
     #[inline(always)]
     fn mode(&self) -> LwMode {
@@ -266,10 +266,10 @@ impl<'a, T: PartTable, M: Marking<T>> Held<Seat<T>, ()> for SlotsShared<'a, T, M
         (λ a. (slots : SlotsInHand) × MayUnshareFastBy a it.owner slots) M.mark (UnsharedFast it.owner) seat };
 
     ghost due = { λ it before after _. HasPut T.content it.words.now.key it.words.now.table_id (OfSlots it.owner)
-        Shared before after (account_unsharing_fast (account_at T.content before) it.owner) before.me.1 };
+        Shared before after (account_unsharing_fast (account_at T.content before) it.owner) (side_of before).1 };
 
     ghost released = { λ it before after _. HasReleased T.content before after
-        (account_unsharing_fast (account_at T.content before) it.owner) before.me.1 };
+        (account_unsharing_fast (account_at T.content before) it.owner) (side_of before).1 };
 
     #[inline(always)]
     fn mode(&self) -> LwMode {

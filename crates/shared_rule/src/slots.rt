@@ -4,7 +4,7 @@
 ghost use Rattle.std.specs.Prelude.{◌≡◌, ◌<◌, ◌*◌, Some};
 ghost use Rattle.lock_world.specs.Account.{InHand, SlotsInHand};
 ghost use Rattle.shared_rule.specs.History.{noting};
-ghost use Rattle.shared_rule.specs.Plays.{account_at, number_at, FitsTable, HasSession, IsSameSeat};
+ghost use Rattle.shared_rule.specs.Plays.{side_of, account_at, number_at, FitsTable, HasSession, IsSameSeat};
 ghost use Rattle.lock_table.specs.Content.{add_hold};
 ghost use Rattle.lock_world.specs.SlotHolds.{group_size, slot_holds};
 ghost use Rattle.lock_world.specs.AccountLaw.{MaySetSlotBy, MayClearSlotBy, MayTransferBy};
@@ -28,10 +28,10 @@ pub(crate) fn load_database<T: PartTable, M: Marking<T>>(
 ) -> u64
     requires table { FitsTable seat.old words.now.key words.now.table_id }
     requires exists { owner < words.now.key.sessions }
-    requires session { HasSession seat.old.me.0 }
+    requires session { HasSession (side_of seat.old).0 }
     requires mark { M.mark ≡ LoadedDatabase owner }
     ensures same_seat { IsSameSeat seat.old seat.new }
-    ensures side { seat.new.me ≡ (noting seat.old.me.0 (LoadedDatabase owner result), seat.old.me.1) }
+    ensures side { side_of seat.new ≡ (noting (side_of seat.old).0 (LoadedDatabase owner result), (side_of seat.old).1) }
     ensures of_slots { (slots : SlotsInHand) → (account_at T.content seat.old).fast.slots owner ≡ Some slots
         → slots.holds ≡ slot_holds result slots.word }
     ensures of_shared_slots { (slots : SlotsInHand)
@@ -53,11 +53,11 @@ pub(crate) fn load_slot<T: PartTable, M: Marking<T>>(
     requires table { FitsTable seat.old words.now.key words.now.table_id }
     requires sessions { sessions ≡ words.now.key.sessions }
     requires exists { owner < words.now.key.sessions }
-    requires session { HasSession seat.old.me.0 }
+    requires session { HasSession (side_of seat.old).0 }
     requires within { slot < group_size * words.now.key.groups }
     requires mark { M.mark ≡ LoadedSlot owner slot }
     ensures same_seat { IsSameSeat seat.old seat.new }
-    ensures side { seat.new.me ≡ (noting seat.old.me.0 (LoadedSlot owner slot result), seat.old.me.1) }
+    ensures side { side_of seat.new ≡ (noting (side_of seat.old).0 (LoadedSlot owner slot result), (side_of seat.old).1) }
     ensures of_slots { (slots : SlotsInHand) → (account_at T.content seat.old).fast.slots owner ≡ Some slots
         → result ≡ slots.word slot }
     ensures of_shared_slots { (slots : SlotsInHand)
@@ -79,7 +79,7 @@ pub(crate) fn set_slot<T: PartTable, M: Marking<T>>(
     mode: Mode,
 )
     requires table { FitsTable seat.old words.now.key words.now.table_id }
-    requires session { HasSession seat.old.me.0 }
+    requires session { HasSession (side_of seat.old).0 }
     requires own { number ≡ number_at seat.old }
     requires among { number < words.now.key.sessions }
     requires sessions { sessions ≡ words.now.key.sessions }
@@ -89,7 +89,7 @@ pub(crate) fn set_slot<T: PartTable, M: Marking<T>>(
         mine slot tag.now mode × (shown ≡ mine.word slot) }
     requires mark { M.mark ≡ (λ _. SetSlot slot tag.now mode) }
     ensures same_seat { IsSameSeat seat.old seat.new }
-    ensures side { seat.new.me ≡ (noting seat.old.me.0 (SetSlot slot tag.now mode), seat.old.me.1) }
+    ensures side { side_of seat.new ≡ (noting (side_of seat.old).0 (SetSlot slot tag.now mode), (side_of seat.old).1) }
 {
     let word = shown.with(tag.relation_number(), mode);
     store_as::<T, M>(
@@ -113,7 +113,7 @@ pub(crate) fn clear_slot<T: PartTable, M: Marking<T>>(
     mode: Mode,
 )
     requires table { FitsTable seat.old words.now.key words.now.table_id }
-    requires session { HasSession seat.old.me.0 }
+    requires session { HasSession (side_of seat.old).0 }
     requires own { number ≡ number_at seat.old }
     requires among { number < words.now.key.sessions }
     requires sessions { sessions ≡ words.now.key.sessions }
@@ -122,7 +122,7 @@ pub(crate) fn clear_slot<T: PartTable, M: Marking<T>>(
         mine slot tag.now mode × (shown ≡ mine.word slot) }
     requires mark { M.mark ≡ (λ _. ClearedSlot slot tag.now mode) }
     ensures same_seat { IsSameSeat seat.old seat.new }
-    ensures side { seat.new.me ≡ (noting seat.old.me.0 (ClearedSlot slot tag.now mode), seat.old.me.1) }
+    ensures side { side_of seat.new ≡ (noting (side_of seat.old).0 (ClearedSlot slot tag.now mode), (side_of seat.old).1) }
 {
     let word = shown.without(mode);
     store_as::<T, M>(
@@ -148,7 +148,7 @@ pub(crate) fn transfer_slot<T: PartTable, M: Marking<T>>(
     content: &T,
 )
     requires table { FitsTable seat.old words.now.key words.now.table_id }
-    requires session { HasSession seat.old.me.0 }
+    requires session { HasSession (side_of seat.old).0 }
     requires sessions { sessions ≡ words.now.key.sessions }
     requires within { slot < group_size * words.now.key.groups }
     requires lawful { (its : SlotsInHand) × (mine : InHand)
@@ -157,8 +157,8 @@ pub(crate) fn transfer_slot<T: PartTable, M: Marking<T>>(
     requires exists { owner < words.now.key.sessions }
     requires mark { M.mark ≡ (λ _. TransferredSlot owner slot tag.now mode) }
     ensures same_seat { IsSameSeat seat.old seat.new }
-    ensures side { seat.new.me
-        ≡ (noting seat.old.me.0 (TransferredSlot owner slot tag.now mode), seat.old.me.1) }
+    ensures side { (side_of seat.new)
+        ≡ (noting (side_of seat.old).0 (TransferredSlot owner slot tag.now mode), (side_of seat.old).1) }
 {
     let word = shown.without(mode);
     store_as::<T, M>(words, seat, slot_word(sessions, owner, slot), word.number());
@@ -173,13 +173,13 @@ pub(crate) fn store_database<T: PartTable, M: Marking<T>>(
     database: u32,
 )
     requires table { FitsTable seat.old words.now.key words.now.table_id }
-    requires session { HasSession seat.old.me.0 }
+    requires session { HasSession (side_of seat.old).0 }
     requires own { number ≡ number_at seat.old }
     requires among { number < words.now.key.sessions }
     requires no_hold { HoldsNothing (account_at T.content seat.old) }
     requires mark { M.mark ≡ (λ _. StoredDatabase database) }
     ensures same_seat { IsSameSeat seat.old seat.new }
-    ensures side { seat.new.me ≡ (noting seat.old.me.0 (StoredDatabase database), seat.old.me.1) }
+    ensures side { side_of seat.new ≡ (noting (side_of seat.old).0 (StoredDatabase database), (side_of seat.old).1) }
 {
     store_as::<T, M>(words, seat, database_word(number), u64::from(database));
 }

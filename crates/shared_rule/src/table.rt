@@ -8,7 +8,7 @@ ghost use Rattle.lock_table.specs.Parts.{AreEmptyParts};
 ghost use Rattle.shared_rule.specs.Opening.{IsNew, IsEmptyList, AreNew};
 ghost use Rattle.modes_core.specs.Sessions.{most_sessions};
 
-use crate::history::View;
+use crate::history::PlacedView;
 use crate::kept::Kept;
 use crate::layout::{
     BLOCK, CONTENT_GAP, CONTENT_SHELVES, GAP, SESSIONS_START, table_shelves, table_words,
@@ -22,7 +22,7 @@ use modes_core::PARTITIONS;
 use std::alloc::Global;
 
 /// The table that all sessions share, with its memory. Threads share its field `shared`.
-pub type SharedTable<T> = Table<Kept<T>, View<T>, TableSizes, LockTableRule, Global>;
+pub type SharedTable<T> = Table<Kept<T>, PlacedView<T>, TableSizes, LockTableRule, Global>;
 
 // All words of the table of `sizes`, before the first step: those of lightweight locks are free, and all
 // others 0.

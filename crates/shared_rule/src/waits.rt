@@ -4,7 +4,7 @@
 ghost use Rattle.std.specs.Prelude.{◌≡◌, ◌<◌, None, [], List, map};
 ghost use Rattle.lock_world.specs.Account.{InHand};
 ghost use Rattle.shared_rule.specs.History.{noting, sessions_told};
-ghost use Rattle.shared_rule.specs.Plays.{account_at, number_at, FitsTable, HasSession, IsSameSeat};
+ghost use Rattle.shared_rule.specs.Plays.{side_of, account_at, number_at, FitsTable, HasSession, IsSameSeat};
 ghost use Rattle.modes_core.specs.Tag.{partition_of};
 ghost use Rattle.lock_table.specs.declared.moves.Move.TheVariants.{Join};
 ghost use Rattle.lock_table.specs.Content as contents;
@@ -17,6 +17,7 @@ ghost use Rattle.shared_rule.specs.Marks.{ClearedWait, LeftQueue, CalledWaiter};
 ghost use Rattle.shared_rule.specs.Lawful.{IsGrantingIn, MayMarkBy, MayClearBy};
 
 use crate::layout::wait_word;
+use crate::parks::call;
 use crate::plays::Marking;
 use crate::rule::{Seat, SharedWords};
 use crate::words::{fetch_add_as, fetch_or_as, load_as, store_as};
@@ -38,14 +39,14 @@ pub(crate) fn set_waiting<T: PartTable, M: Marking<T>>(
     content: &T,
 )
     requires table { FitsTable seat.old words.now.key words.now.table_id }
-    requires session { HasSession seat.old.me.0 }
+    requires session { HasSession (side_of seat.old).0 }
     requires own { number ≡ number_at seat.old }
     requires among { number < words.now.key.sessions }
     requires lawful { (mine : InHand) × MayMoveBy words.now.key.sessions (number_at seat.old)
         (account_at T.content seat.old) (partition_of tag.now) mine (Join tag.now mode) [] (T.content content.now) }
     requires mark { M.mark ≡ (λ _. SetWaiting tag.now mode content.now) }
     ensures same_seat { IsSameSeat seat.old seat.new }
-    ensures side { seat.new.me ≡ (noting seat.old.me.0 (SetWaiting tag.now mode content.now), seat.old.me.1) }
+    ensures side { side_of seat.new ≡ (noting (side_of seat.old).0 (SetWaiting tag.now mode content.now), (side_of seat.old).1) }
 {
     store_as::<T, M>(words, seat, wait_word(number), WaitState::Waiting as u64);
 }
@@ -64,7 +65,7 @@ pub(crate) fn mark_granted<T: PartTable, M: Marking<T>>(
 )
     requires table { FitsTable seat.old words.now.key words.now.table_id }
     requires exists { other < words.now.key.sessions }
-    requires session { HasSession seat.old.me.0 }
+    requires session { HasSession (side_of seat.old).0 }
     requires grants { IsGrantingIn part done.now }
     requires lawful { (mine : InHand) × (granted : List contents.Wait)
         × (woken.now ≡ map whose_and_mode granted)
@@ -73,10 +74,10 @@ pub(crate) fn mark_granted<T: PartTable, M: Marking<T>>(
     requires mark { M.mark
         ≡ (λ _. MarkedGranted part other done.now (sessions_told woken.now) content.now) }
     ensures same_seat { IsSameSeat seat.old seat.new }
-    ensures side { seat.new.me
+    ensures side { (side_of seat.new)
         ≡ (
-          noting seat.old.me.0 (MarkedGranted part other done.now (sessions_told woken.now) content.now),
-          seat.old.me.1,
+          noting (side_of seat.old).0 (MarkedGranted part other done.now (sessions_told woken.now) content.now),
+          (side_of seat.old).1,
         ) }
 {
     fetch_add_as::<T, M>(words, seat, wait_word(other), GRANT);
@@ -90,12 +91,12 @@ pub(crate) fn load_wait<T: PartTable, M: Marking<T>>(
     number: SessionId,
 ) -> u64
     requires table { FitsTable seat.old words.now.key words.now.table_id }
-    requires session { HasSession seat.old.me.0 }
+    requires session { HasSession (side_of seat.old).0 }
     requires own { number ≡ number_at seat.old }
     requires among { number < words.now.key.sessions }
     requires mark { M.mark ≡ LoadedWait }
     ensures same_seat { IsSameSeat seat.old seat.new }
-    ensures side { seat.new.me ≡ (noting seat.old.me.0 (LoadedWait result), seat.old.me.1) }
+    ensures side { side_of seat.new ≡ (noting (side_of seat.old).0 (LoadedWait result), (side_of seat.old).1) }
 {
     load_as::<T, M>(words, seat, wait_word(number))
 }
@@ -109,18 +110,18 @@ pub(crate) fn ask_cancel<T: PartTable, M: Marking<T>>(
 ) -> u64
     requires table { FitsTable seat.old words.now.key words.now.table_id }
     requires exists { other < words.now.key.sessions }
-    requires session { HasSession seat.old.me.0 }
+    requires session { HasSession (side_of seat.old).0 }
     requires mark { M.mark ≡ Asked other }
     ensures same_seat { IsSameSeat seat.old seat.new }
-    ensures side { seat.new.me ≡ (noting seat.old.me.0 (Asked other result), seat.old.me.1) }
+    ensures side { side_of seat.new ≡ (noting (side_of seat.old).0 (Asked other result), (side_of seat.old).1) }
     ensures own { other ≡ number_at seat.old → (account_at T.content seat.old).awaited ≡ None
         → wait_state result ≡ 0 }
 {
     fetch_or_as::<T, M>(words, seat, wait_word(other), CANCEL_ASKED)
 }
 
-/// Calls `other`, which may be parked on its wait word (`SetLatch` in `ProcWakeup` of proc.c). The session
-/// looks at that word right before the call, so that its history notes the call.
+/// Calls `other`, which may be parked on its wait word (`SetLatch` in `ProcWakeup` of proc.c), and notes the
+/// call in the session's history.
 pub(crate) fn call_waiter<T: PartTable, M: Marking<T>>(
     words: &SharedWords<T>,
     seat: &mut Seat<T>,
@@ -128,13 +129,12 @@ pub(crate) fn call_waiter<T: PartTable, M: Marking<T>>(
 )
     requires table { FitsTable seat.old words.now.key words.now.table_id }
     requires exists { other < words.now.key.sessions }
-    requires session { HasSession seat.old.me.0 }
+    requires session { HasSession (side_of seat.old).0 }
     requires mark { M.mark ≡ (λ _. CalledWaiter other) }
     ensures same_seat { IsSameSeat seat.old seat.new }
-    ensures side { seat.new.me ≡ (noting seat.old.me.0 (CalledWaiter other), seat.old.me.1) }
+    ensures side { side_of seat.new ≡ (noting (side_of seat.old).0 (CalledWaiter other), (side_of seat.old).1) }
 {
-    load_as::<T, M>(words, seat, wait_word(other));
-    words.wake_one(wait_word(other));
+    call::<T, M>(words, seat, wait_word(other));
 }
 
 /// Clears the wait word of the session `number`, its own: the wait is over, since the grant was seen or the
@@ -145,13 +145,13 @@ pub(crate) fn clear_wait<T: PartTable, M: Marking<T>>(
     number: SessionId,
 )
     requires table { FitsTable seat.old words.now.key words.now.table_id }
-    requires session { HasSession seat.old.me.0 }
+    requires session { HasSession (side_of seat.old).0 }
     requires own { number ≡ number_at seat.old }
     requires among { number < words.now.key.sessions }
     requires lawful { (wait : OwnWait) × MayClearBy (number_at seat.old) (account_at T.content seat.old) wait }
     requires mark { M.mark ≡ (λ _. ClearedWait) }
     ensures same_seat { IsSameSeat seat.old seat.new }
-    ensures side { seat.new.me ≡ (noting seat.old.me.0 (ClearedWait), seat.old.me.1) }
+    ensures side { side_of seat.new ≡ (noting (side_of seat.old).0 (ClearedWait), (side_of seat.old).1) }
 {
     store_as::<T, M>(words, seat, wait_word(number), WaitState::NotWaiting as u64);
 }
@@ -167,7 +167,7 @@ pub(crate) fn leave_queue<T: PartTable, M: Marking<T>>(
     content: &T,
 )
     requires table { FitsTable seat.old words.now.key words.now.table_id }
-    requires session { HasSession seat.old.me.0 }
+    requires session { HasSession (side_of seat.old).0 }
     requires own { number ≡ number_at seat.old }
     requires among { number < words.now.key.sessions }
     requires lawful { (wait : OwnWait) × (mine : InHand) × (granted : List contents.Wait)
@@ -176,8 +176,8 @@ pub(crate) fn leave_queue<T: PartTable, M: Marking<T>>(
         mine granted (T.content content.now) }
     requires mark { M.mark ≡ (λ _. LeftQueue (sessions_told woken.now) content.now) }
     ensures same_seat { IsSameSeat seat.old seat.new }
-    ensures side { seat.new.me
-        ≡ (noting seat.old.me.0 (LeftQueue (sessions_told woken.now) content.now), seat.old.me.1) }
+    ensures side { (side_of seat.new)
+        ≡ (noting (side_of seat.old).0 (LeftQueue (sessions_told woken.now) content.now), (side_of seat.old).1) }
 {
     store_as::<T, M>(words, seat, wait_word(number), WaitState::NotWaiting as u64);
 }

@@ -10,6 +10,7 @@ pub mod Steps
 pub mod Order
 pub mod Steppers
 pub mod Live
+pub mod Parked
 pub mod Calls
 pub mod Runs
 pub mod Reasons

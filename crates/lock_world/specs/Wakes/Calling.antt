@@ -32,13 +32,13 @@ EachIsCalled ParksOn word c =
     (session shown : ℕ) → c.looked session ≡ Some shown → ParksOn shown
     → (word session ≡ shown) ⊎ ((c.called session ≡ true) ⊎ ((other : ℕ) × (c.owed other session ≡ true)))
 
--- The session is parked: the kernel found its word as the session had loaded it, and nobody has called it
--- since. The session has nobody to call.
-pub record IsParked (ParksOn : ℕ → Type 0) (c : Calls) (session shown : ℕ) : Type 0 where
+-- The session is parked, where `parks` says who parks on its word by its last turn: the kernel found the word
+-- as the session had loaded it, and nobody has called it since.
+pub record IsParked (ParksOn : ℕ → Type 0) (c : Calls) (parks : ℕ → Bool) (session shown : ℕ) : Type 0 where
+  pub by_last_turn : parks session ≡ true
   pub looked : c.looked session ≡ Some shown
   pub parks_on : ParksOn shown
   pub uncalled : c.called session ≡ false
-  pub owes_none : (other : ℕ) → c.owed session other ≡ false
 
 -- The session loads its word, which shows `shown`: a call before that counts no more.
 abbrev pub looking : Calls → ℕ → ℕ → Calls

@@ -184,6 +184,19 @@ pub record HasNothingToDo (w : World) (x : Duties) (waits sleeps : Calls) (sessi
   pub calls_no_waiter : (other : ℕ) → waits.owed session other ≡ false
   pub calls_no_sleeper : (other : ℕ) → sleeps.owed session other ≡ false
 
+-- The session may park on its sleep word: it stands in the list of a lock, and has nothing to do for anybody,
+-- and nobody to call. Where it has won that lock, it knows that it is off the list.
+pub record MaySleep (w : World) (x : Duties) (waits sleeps : Calls) (session : ℕ) : Type 0 where
+  pub lock : ℕ
+  pub stands : w.sessions.stands session ≡ Some lock
+  pub not_won : HasIn w session lock → x.owes_release_ok session ≡ None
+  pub no_look : x.due session ≡ None
+  pub no_try : x.tries session ≡ None
+  pub no_list : w.sessions.has_list session ≡ None
+  pub tells_nobody : TellsNobody w.sessions.off session
+  pub calls_no_waiter : (other : ℕ) → waits.owed session other ≡ false
+  pub calls_no_sleeper : (other : ℕ) → sleeps.owed session other ≡ false
+
 -- What each step asks. A put asks that no look is due; closing, and being kept apart, that there is nothing
 -- to do.
 abbrev pub Asks : World → Duties → Calls → Calls → ℕ → Step → Type 0

@@ -123,10 +123,3 @@ pub record OrderIsKept (w : Waking) : Type 0 where
 pub data IsInvolved (w : Waking) (session : ℕ) : Type 0 where
   owes_one : (lock : ℕ) → Owes w lock session → IsInvolved w session
   tells_one : (other : ℕ) → w.sleepers.off session other ≡ true → IsInvolved w session
-
--- Not all who are involved sleep, where anybody sleeps: no circle of sleepers, and each chain of waiting ends
--- at one that runs.
-abbrev pub NotAllSleep : Waking → Type 0
-NotAllSleep w =
-    ((session : ℕ) → IsInvolved w session → (lock : ℕ) × IsAsleep w session lock)
-    → (session lock : ℕ) → IsAsleep w session lock → ⊥

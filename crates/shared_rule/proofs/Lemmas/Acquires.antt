@@ -7,7 +7,7 @@ use Rattle.lw_word.specs.declared.words.LwMode.{LwMode}
 use Rattle.lw_word.specs.declared.words.LwMode.TheVariants.{Exclusive, Shared}
 use Rattle.lock_world.specs.AccountSteps.{account_taking}
 use Rattle.lock_world.specs.AccountFacts.{KnowsContent, KnowsSlots}
-use Rattle.shared_rule.specs.declared.history.View.{View}
+use Rattle.shared_rule.specs.declared.history.PlacedView.{PlacedView}
 use Rattle.shared_rule.specs.Marks.{TookFast, SharedFast}
 use Rattle.shared_rule.specs.declared.kept.Kept.{Kept}
 use Rattle.shared_rule.specs.declared.kept.Kept.TheVariants.{Nothing}
@@ -17,7 +17,7 @@ use Rattle.shared_rule.specs.Led.{LedBy, LedTo}
 use Rattle.shared_rule.specs.LwLocks.{no_lists, queued_for}
 use Rattle.shared_rule.specs.Acquires.{GotNothing, IsAsBefore, GetsSlots, account_getting, TakesPartition}
 use Rattle.shared_rule.specs.Todos.{Todo, TriesAtMost, nothing_to_do, todo_attempted, todo_in_list, todo_got}
-use Rattle.shared_rule.specs.Plays.{Side, account_at, number_at, quiet_at, todo_at, HasSession, IsSameSeat, TookSlots, SharedSlots}
+use Rattle.shared_rule.specs.Plays.{side_of, Side, account_at, number_at, quiet_at, todo_at, HasSession, IsSameSeat, TookSlots, SharedSlots}
 use Rattle.shared_rule.specs.Quiet.{quiet_getting}
 use Rattle.shared_rule.proofs.Lemmas.Led.{led-noted, led_to-as, led_by-as, led_by-todo, led_to-then, led_by-then}
 
@@ -66,8 +66,8 @@ getting-with Shared number a lists after owner slots = refl
 
 module _ {T : Type 0} (content : T → Content) where
   -- A step that took the lock of a session's slots,
-  pub took-slots : (groups owner : ℕ) (before after : Seat (Kept T) (View T)) → HasSession before.me.0 → IsSameSeat before after
-      → TookSlots content groups owner before.me after.me → GetsSlots content groups Exclusive owner before after
+  pub took-slots : (groups owner : ℕ) (before after : Seat (Kept T) (PlacedView T)) → HasSession (side_of before).0 → IsSameSeat before after
+      → TookSlots content groups owner (side_of before) (side_of after) → GetsSlots content groups Exclusive owner before after
   took-slots groups owner before after has same took = record {
     shown = slots_shown took.database took.words;
     knows = took.knows;
@@ -76,8 +76,8 @@ module _ {T : Type 0} (content : T → Content) where
   }
 
   -- or shared it.
-  pub shared-slots : (groups owner : ℕ) (before after : Seat (Kept T) (View T)) → HasSession before.me.0 → IsSameSeat before after
-      → SharedSlots content groups owner before.me after.me → GetsSlots content groups Shared owner before after
+  pub shared-slots : (groups owner : ℕ) (before after : Seat (Kept T) (PlacedView T)) → HasSession (side_of before).0 → IsSameSeat before after
+      → SharedSlots content groups owner (side_of before) (side_of after) → GetsSlots content groups Shared owner before after
   shared-slots groups owner before after has same shares = record {
     shown = slots_shown shares.database shares.words;
     knows = shares.knows;
@@ -86,7 +86,7 @@ module _ {T : Type 0} (content : T → Content) where
   }
 
   -- A call that got nothing, with at most an attempt to make before and after it, and one more.
-  module _ (before middle after : Seat (Kept T) (View T)) (todo : Todo) (first : GotNothing content before middle todo) where
+  module _ (before middle after : Seat (Kept T) (PlacedView T)) (todo : Todo) (first : GotNothing content before middle todo) where
     got-then : (does : Todo → Todo) → GotNothing content middle after (does (todo_at middle)) → GotNothing content before after (does todo)
     got-then does second = record {
       led = led_to-then content before middle after (account_at content before) todo (λ a. a) does first.led second.led;
@@ -120,13 +120,13 @@ module _ {T : Type 0} (content : T → Content) where
 
   -- A call that got nothing and left all as it was, with one attempt more.
   pub nothing-then_got :
-      (before middle after : Seat (Kept T) (View T)) → IsAsBefore content before middle → (does : Todo → Todo)
+      (before middle after : Seat (Kept T) (PlacedView T)) → IsAsBefore content before middle → (does : Todo → Todo)
       → GotNothing content middle after (does (todo_at middle)) → GotNothing content before after (does (todo_at before))
   nothing-then_got before middle after first = got-then before middle after (todo_at before) first
 
   -- Between queueing and leaving the list.
-  module _ (lock : ℕ) (before queued attempted after : Seat (Kept T) (View T)) (idle : (account_at content before).lists ≡ no_lists) (tries : TriesAtMost lock (todo_at before))
-      (queues : LedTo content before queued (with_lists (account_at content before) (queued_for lock)) (todo_in_list lock)) (same : queued.me.1 ≡ before.me.1) where
+  module _ (lock : ℕ) (before queued attempted after : Seat (Kept T) (PlacedView T)) (idle : (account_at content before).lists ≡ no_lists) (tries : TriesAtMost lock (todo_at before))
+      (queues : LedTo content before queued (with_lists (account_at content before) (queued_for lock)) (todo_in_list lock)) (same : (side_of queued).1 ≡ (side_of before).1) where
     -- Either way there is nothing else to attempt.
     once-tried : nothing_to_do ≡ todo_attempted (todo_at before)
     once-tried = λ i. record { due = sym tries.no_look i; tries = None; owes_release_ok = sym tries.no_ok i; calls = sym tries.calls_nobody i }
@@ -134,7 +134,7 @@ module _ {T : Type 0} (content : T → Content) where
     -- A partition was got,
     pub took_part-between :
         (begun : T → Option Request) (sessions part : ℕ) (taken : T) → TakesPartition content begun sessions part queued attempted taken
-        → LedTo content attempted after (with_lists (account_at content attempted) no_lists) nothing_to_do → after.me.1 ≡ attempted.me.1
+        → LedTo content attempted after (with_lists (account_at content attempted) no_lists) nothing_to_do → (side_of after).1 ≡ (side_of attempted).1
         → TakesPartition content begun sessions part before after taken
     took_part-between begun sessions part taken takes leaves rest =
         let a : Account = account_at content before in
@@ -155,7 +155,7 @@ module _ {T : Type 0} (content : T → Content) where
     -- or the lock of a session's slots,
     pub got_slots-between :
         (groups : ℕ) (mode : LwMode) (owner : ℕ) → GetsSlots content groups mode owner queued attempted
-        → LedTo content attempted after (with_lists (account_at content attempted) no_lists) nothing_to_do → after.me.1 ≡ attempted.me.1
+        → LedTo content attempted after (with_lists (account_at content attempted) no_lists) nothing_to_do → (side_of after).1 ≡ (side_of attempted).1
         → GetsSlots content groups mode owner before after
     got_slots-between groups mode owner takes leaves rest =
         let a : Account = account_at content before in

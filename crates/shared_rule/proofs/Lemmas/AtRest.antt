@@ -2,13 +2,14 @@ use Rattle.std.proofs.Common.{◌≡◌, ℕ, List, [], sym, ap, ◌∙◌, subs
 use Rattle.atomic_table.specs.declared.shared.Seat.{Seat}
 use Rattle.lock_table.specs.Content.{Content}
 use Rattle.lock_world.specs.Account.{Account}
+use Rattle.shared_rule.specs.declared.history.PlacedView.{PlacedView}
 use Rattle.shared_rule.specs.declared.history.View.{View}
 use Rattle.shared_rule.specs.declared.kept.Kept.{Kept}
 use Rattle.shared_rule.specs.Boards.{parts_in_hand, shelves_out, first_marks, IsAtRest, StaysLone}
 use Rattle.shared_rule.specs.History.{first_account}
 use Rattle.shared_rule.specs.Led.{Led, LedBy}
 use Rattle.shared_rule.specs.LwLocks.{no_lists}
-use Rattle.shared_rule.specs.Plays.{account_at, todo_at, HasSession}
+use Rattle.shared_rule.specs.Plays.{side_of, account_at, todo_at, HasSession}
 use Rattle.shared_rule.specs.Quiet.{Quiet}
 use Rattle.shared_rule.specs.Todos.{Todo, todo_attempted, nothing_to_do}
 use Rattle.shared_rule.proofs.Lemmas.Idle.{lists-told, idle-still}
@@ -36,35 +37,35 @@ module _ {T : Type 0} where
 
   -- A call leaves a board at rest that leaves the session's lists as they were and nothing to do for those
   -- who wait, with those contents off their shelves that are in hand;
-  pub led-rests : {content : T → Content} {number : ℕ} {before after : Seat (Kept T) (View T)} {a : Account} {quiet : List Quiet} {todo : Todo}
+  pub led-rests : {content : T → Content} {number : ℕ} {before after : Seat (Kept T) (PlacedView T)} {a : Account} {quiet : List Quiet} {todo : Todo}
       → LedBy content before after a quiet todo → a.lists ≡ (account_at content before).lists → todo ≡ nothing_to_do
-      → after.me.1 ≡ shelves_out (parts_in_hand after.me.1) → IsAtRest number before.me.0 before.me.1 → IsAtRest number after.me.0 after.me.1
+      → (side_of after).1 ≡ shelves_out (parts_in_hand (side_of after).1) → IsAtRest number (side_of before).0 (side_of before).1 → IsAtRest number (side_of after).0 (side_of after).1
   led-rests {content} {number} {before} {after} led same free out rests = record {
     lone = led.lone number rests.lone;
     out = out;
-    idle = idle-still content before.me.0.sessions after.me.0.sessions (ap (λ (a : Account). a.lists) led.account ∙ same) (led.todo ∙ free) rests.idle;
+    idle = idle-still content (side_of before).0.sessions (side_of after).0.sessions (ap (λ (a : Account). a.lists) led.account ∙ same) (led.todo ∙ free) rests.idle;
   }
 
   -- so does one that made no quiet step, and after which no content came or went;
-  pub released-rests : {content : T → Content} {number : ℕ} {before after : Seat (Kept T) (View T)} {a : Account}
-      → Led content before after a → a.lists ≡ (account_at content before).lists → after.me.1 ≡ before.me.1
-      → IsAtRest number before.me.0 before.me.1 → IsAtRest number after.me.0 after.me.1
+  pub released-rests : {content : T → Content} {number : ℕ} {before after : Seat (Kept T) (PlacedView T)} {a : Account}
+      → Led content before after a → a.lists ≡ (account_at content before).lists → (side_of after).1 ≡ (side_of before).1
+      → IsAtRest number (side_of before).0 (side_of before).1 → IsAtRest number (side_of after).0 (side_of after).1
   released-rests {before = before} {after} led same shelves rests =
-      led-rests led same rests.idle.free (out-still before.me.1 after.me.1 shelves rests.out) rests
+      led-rests led same rests.idle.free (out-still (side_of before).1 (side_of after).1 shelves rests.out) rests
 
   -- so does an acquire of a lightweight lock of slots;
-  pub acquired-rests : {content : T → Content} {number : ℕ} {before after : Seat (Kept T) (View T)} {a : Account} {quiet : List Quiet}
-      → LedBy content before after a quiet (todo_attempted (todo_at before)) → a.lists ≡ (account_at content before).lists → after.me.1 ≡ before.me.1
-      → IsAtRest number before.me.0 before.me.1 → IsAtRest number after.me.0 after.me.1
+  pub acquired-rests : {content : T → Content} {number : ℕ} {before after : Seat (Kept T) (PlacedView T)} {a : Account} {quiet : List Quiet}
+      → LedBy content before after a quiet (todo_attempted (todo_at before)) → a.lists ≡ (account_at content before).lists → (side_of after).1 ≡ (side_of before).1
+      → IsAtRest number (side_of before).0 (side_of before).1 → IsAtRest number (side_of after).0 (side_of after).1
   acquired-rests {before = before} {after} led same shelves rests =
-      led-rests led same (ap todo_attempted rests.idle.free) (out-still before.me.1 after.me.1 shelves rests.out) rests
+      led-rests led same (ap todo_attempted rests.idle.free) (out-still (side_of before).1 (side_of after).1 shelves rests.out) rests
 
   -- and so does one try for the lock of its own slots.
-  pub tried-rests : (content : T → Content) {number : ℕ} (before after : Seat (Kept T) (View T)) → (account_at content after).lists ≡ (account_at content before).lists
-      → todo_at after ≡ nothing_to_do → StaysLone before.me.0 after.me.0 → after.me.1 ≡ before.me.1 → IsAtRest number before.me.0 before.me.1
-      → IsAtRest number after.me.0 after.me.1
+  pub tried-rests : (content : T → Content) {number : ℕ} (before after : Seat (Kept T) (PlacedView T)) → (account_at content after).lists ≡ (account_at content before).lists
+      → todo_at after ≡ nothing_to_do → StaysLone (side_of before).0 (side_of after).0 → (side_of after).1 ≡ (side_of before).1 → IsAtRest number (side_of before).0 (side_of before).1
+      → IsAtRest number (side_of after).0 (side_of after).1
   tried-rests content {number} before after same free lone shelves rests = record {
     lone = lone number rests.lone;
-    out = out-still before.me.1 after.me.1 shelves rests.out;
-    idle = idle-still content before.me.0.sessions after.me.0.sessions same free rests.idle;
+    out = out-still (side_of before).1 (side_of after).1 shelves rests.out;
+    idle = idle-still content (side_of before).0.sessions (side_of after).0.sessions same free rests.idle;
   }

@@ -119,9 +119,11 @@ module _ (w : World) (b : Beside) (n : ℕ) (owed : List ℕ) (was : OwesAsTold 
   words-owed (word.SetReleaseOk lock) its told asked = same its _ told.1.2 was
   words-owed (word.SetHasWaiters lock) its told asked = same its _ told.1.2 was
   words-owed (word.SawListLocked lock) its told asked = absurd told
-  words-owed (word.SawHeld lock) its told asked = absurd told
+  words-owed (word.SawHeld lock shown) its told asked = absurd told
   words-owed (word.CalledWaiter other) its told asked = absurd told
   words-owed (word.CalledSleeper other) its told asked = absurd told
+  words-owed (word.ParksWaiting shown) its told asked = absurd told
+  words-owed (word.ParksAsleep shown) its told asked = absurd told
 
   pub step-owed : {T : Type 0} (m : Mark T) (its : Step) → Tells n m its → ((other before : ℕ) → m ≡ mark.OfWords (word.Asked other before) → before ≡ w.words.wait other)
       → Then its (owed_noted owed m)

@@ -12,6 +12,7 @@ use Rattle.lock_world.specs.Counted.{count_at}
 use Rattle.lock_world.specs.SlotHolds.{slot_holds, OneSlotEach, AreInGroups}
 use Rattle.lock_world.specs.Tallies.{left_in_slots, OwnStand, ShowsLeft}
 use Rattle.shared_rule.specs.declared.history.Mark.{Mark}
+use Rattle.shared_rule.specs.declared.history.PlacedView.{PlacedView}
 use Rattle.shared_rule.specs.declared.history.View.{View}
 use Rattle.shared_rule.specs.declared.kept.Kept.{Kept}
 use Rattle.shared_rule.specs.History.{noted, noting, noting_first, first_account, first_number}
@@ -32,10 +33,10 @@ use Rattle.shared_rule.proofs.Lemmas.Taken.{todo-noted, owed-noted}
 
 -- ---- steps at a seat
 
-pub same-seat : {T : Type 0} (seat : Seat (Kept T) (View T)) → IsSameSeat seat seat
+pub same-seat : {T : Type 0} (seat : Seat (Kept T) (PlacedView T)) → IsSameSeat seat seat
 same-seat seat = record { table_id = refl; id = refl }
 
-pub same-seat_then : {T : Type 0} (a b c : Seat (Kept T) (View T)) → IsSameSeat a b → IsSameSeat b c → IsSameSeat a c
+pub same-seat_then : {T : Type 0} (a b c : Seat (Kept T) (PlacedView T)) → IsSameSeat a b → IsSameSeat b c → IsSameSeat a c
 same-seat_then a b c first second = record { table_id = second.table_id ∙ first.table_id; id = second.id ∙ first.id }
 
 module _ {T : Type 0} where

@@ -68,9 +68,11 @@ words-lists number a (word.LoadedSleep shown) = refl
 words-lists number a (word.SetReleaseOk lock) = refl
 words-lists number a (word.SetHasWaiters lock) = refl
 words-lists number a (word.SawListLocked lock) = refl
-words-lists number a (word.SawHeld lock) = refl
+words-lists number a (word.SawHeld lock shown) = refl
 words-lists number a (word.CalledWaiter other) = refl
 words-lists number a (word.CalledSleeper other) = refl
+words-lists number a (word.ParksWaiting shown) = refl
+words-lists number a (word.ParksAsleep shown) = refl
 
 module _ {T : Type 0} (content : T → Content) where
   step-lists : (number : ℕ) (a : Account) (m : Mark T) → (noted content number a m).lists ≡ lists_after number a.lists m

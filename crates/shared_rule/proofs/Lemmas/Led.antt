@@ -8,6 +8,7 @@ use Rattle.lock_table.specs.Content.{Content}
 use Rattle.lock_world.specs.Account.{Account}
 use Rattle.lock_world.specs.AccountSteps.{account_loading_sleep}
 use Rattle.shared_rule.specs.declared.history.Mark.{Mark}
+use Rattle.shared_rule.specs.declared.history.PlacedView.{PlacedView}
 use Rattle.shared_rule.specs.declared.history.View.{View}
 use Rattle.shared_rule.specs.declared.kept.Kept.{Kept}
 use Rattle.shared_rule.specs.Boards.{StaysLone}
@@ -16,7 +17,7 @@ use Rattle.shared_rule.specs.Led.{Led, LedBy, LedTo, KeepsOthers}
 use Rattle.shared_rule.specs.declared.history.History.{History}
 use Rattle.shared_rule.specs.Seats.{behind_of}
 use Rattle.shared_rule.specs.Audits.{IsFurther}
-use Rattle.shared_rule.specs.Plays.{Side, account_at, number_at, quiet_at, todo_at, owed_at, HasSession, IsSameSeat}
+use Rattle.shared_rule.specs.Plays.{side_of, Side, account_at, number_at, quiet_at, todo_at, owed_at, HasSession, IsSameSeat}
 use Rattle.shared_rule.specs.Quiet.{Quiet, first_quiet, quiet_noted}
 use Rattle.shared_rule.specs.Owed.{first_owed, owed_noted}
 use Rattle.shared_rule.specs.Todos.{Todo, first_todo, todo_noted, todo_looked, todo_leaving, todo_told, todo_setting_ok, is_off_list_in_hand}
@@ -40,38 +41,38 @@ module _ {T : Type 0} where
     behind = ap (λ (sessions : List (History T)). behind_of (noting_first sessions mark)) has.sessions ∙ sym (ap behind_of has.sessions);
   }
 
-module _ {T : Type 0} (content : T → Content) (before after : Seat (Kept T) (View T)) where
+module _ {T : Type 0} (content : T → Content) (before after : Seat (Kept T) (PlacedView T)) where
   -- A step that is noted.
-  pub led-noted : (mark : Mark T) → HasSession before.me.0 → IsSameSeat before after
-      → after.me.0 ≡ noting before.me.0 mark → ((owed : List ℕ) → owed_noted owed mark ≡ owed)
+  pub led-noted : (mark : Mark T) → HasSession (side_of before).0 → IsSameSeat before after
+      → (side_of after).0 ≡ noting (side_of before).0 mark → ((owed : List ℕ) → owed_noted owed mark ≡ owed)
       → LedBy content before after (noted content (number_at before) (account_at content before) mark)
       (quiet_noted (quiet_at before) mark) (todo_noted (number_at before) (account_at content before).lists (todo_at before) mark)
   led-noted mark has same is wakes = record {
     seat = same;
-    session = subst HasSession (sym is) (session-noted before.me.0 mark has);
-    number = ap (λ (view : View T). first_number view.sessions) is ∙ number-noted before.me.0 mark has;
-    lone = subst (λ (view : View T). StaysLone before.me.0 view) (sym is) (lone-noted before.me.0 mark);
-    account = ap (λ (view : View T). first_account content view.sessions) is ∙ account-noted content before.me.0 mark has;
-    quiet = ap (λ (view : View T). first_quiet view.sessions) is ∙ quiet-noted before.me.0 mark has;
-    todo = ap (λ (view : View T). first_todo view.sessions) is ∙ todo-noted before.me.0 mark has
-        ∙ ap (λ lists. todo_noted (number_at before) lists (todo_at before) mark) (sym (lists-told content before.me.0.sessions));
-    owed = ap (λ (view : View T). first_owed view.sessions) is ∙ owed-noted before.me.0 mark has ∙ wakes (owed_at before);
-    others = subst (KeepsOthers before.me.0) (sym is) (others-noted before.me.0 mark has);
+    session = subst HasSession (sym is) (session-noted (side_of before).0 mark has);
+    number = ap (λ (view : View T). first_number view.sessions) is ∙ number-noted (side_of before).0 mark has;
+    lone = subst (λ (view : View T). StaysLone (side_of before).0 view) (sym is) (lone-noted (side_of before).0 mark);
+    account = ap (λ (view : View T). first_account content view.sessions) is ∙ account-noted content (side_of before).0 mark has;
+    quiet = ap (λ (view : View T). first_quiet view.sessions) is ∙ quiet-noted (side_of before).0 mark has;
+    todo = ap (λ (view : View T). first_todo view.sessions) is ∙ todo-noted (side_of before).0 mark has
+        ∙ ap (λ lists. todo_noted (number_at before) lists (todo_at before) mark) (sym (lists-told content (side_of before).0.sessions));
+    owed = ap (λ (view : View T). first_owed view.sessions) is ∙ owed-noted (side_of before).0 mark has ∙ wakes (owed_at before);
+    others = subst (KeepsOthers (side_of before).0) (sym is) (others-noted (side_of before).0 mark has);
   }
 
   -- A call that leaves the view alone.
-  pub led-none : HasSession before.me.0 → IsSameSeat before after → after.me.0 ≡ before.me.0
+  pub led-none : HasSession (side_of before).0 → IsSameSeat before after → (side_of after).0 ≡ (side_of before).0
       → Led content before after (account_at content before)
   led-none has same is = record {
     seat = same;
     session = subst HasSession (sym is) has;
     number = ap (λ (view : View T). first_number view.sessions) is;
-    lone = subst (λ (view : View T). StaysLone before.me.0 view) (sym is) (λ number one. one);
+    lone = subst (λ (view : View T). StaysLone (side_of before).0 view) (sym is) (λ number one. one);
     account = ap (λ (view : View T). first_account content view.sessions) is;
     quiet = ap (λ (view : View T). first_quiet view.sessions) is;
     todo = ap (λ (view : View T). first_todo view.sessions) is;
     owed = ap (λ (view : View T). first_owed view.sessions) is;
-    others = subst (KeepsOthers before.me.0) (sym is) (record { next = refl; closed = refl; behind = refl });
+    others = subst (KeepsOthers (side_of before).0) (sym is) (record { next = refl; closed = refl; behind = refl });
   }
 
   -- A view that was led by an account is led by an equal one, with as much to do.
@@ -89,48 +90,48 @@ module _ {T : Type 0} (content : T → Content) (before after : Seat (Kept T) (V
 
   -- What a call then makes of it, with the quiet steps that it adds to these, and what it makes of what is to
   -- do.
-  pub led_by-then : (last : Seat (Kept T) (View T)) (a : Account) (its : List Quiet) (todo : Todo) (next : Account → Account) (adds : List Quiet → List Quiet) (does : Todo → Todo)
+  pub led_by-then : (last : Seat (Kept T) (PlacedView T)) (a : Account) (its : List Quiet) (todo : Todo) (next : Account → Account) (adds : List Quiet → List Quiet) (does : Todo → Todo)
       → LedBy content before after a its todo → LedBy content after last (next (account_at content after)) (adds (quiet_at after)) (does (todo_at after))
       → LedBy content before last (next a) (adds its) (does todo)
   led_by-then last a its todo next adds does one two = record {
     seat = record { table_id = two.seat.table_id ∙ one.seat.table_id; id = two.seat.id ∙ one.seat.id };
     session = two.session;
     number = two.number ∙ one.number;
-    lone = lone-then before.me.0 after.me.0 last.me.0 one.lone two.lone;
+    lone = lone-then (side_of before).0 (side_of after).0 (side_of last).0 one.lone two.lone;
     account = two.account ∙ ap next one.account;
     quiet = two.quiet ∙ ap adds one.quiet;
     todo = two.todo ∙ ap does one.todo;
     owed = two.owed ∙ one.owed;
-    others = others-then before.me.0 after.me.0 last.me.0 one.others two.others;
+    others = others-then (side_of before).0 (side_of after).0 (side_of last).0 one.others two.others;
   }
 
   -- Two calls of which neither makes a quiet step, one after the other,
-  pub led_to-then : (last : Seat (Kept T) (View T)) (a : Account) (todo : Todo) (next : Account → Account) (does : Todo → Todo) → LedTo content before after a todo
+  pub led_to-then : (last : Seat (Kept T) (PlacedView T)) (a : Account) (todo : Todo) (next : Account → Account) (does : Todo → Todo) → LedTo content before after a todo
       → LedTo content after last (next (account_at content after)) (does (todo_at after)) → LedTo content before last (next a) (does todo)
   led_to-then last a todo next does one two = led_by-then last a (quiet_at before) todo next (λ its. its) does one two
 
   -- and as much is to do.
-  pub led-then : (last : Seat (Kept T) (View T)) (a : Account) (next : Account → Account) → Led content before after a
+  pub led-then : (last : Seat (Kept T) (PlacedView T)) (a : Account) (next : Account → Account) → Led content before after a
       → Led content after last (next (account_at content after)) → Led content before last (next a)
   led-then last a next one two = led_to-then last a (todo_at before) next (λ todo. todo) one two
 
   -- The account is as it is.
-  pub led_to-itself : (last : Seat (Kept T) (View T)) (a b : Account) (todo next : Todo) → LedTo content before after a todo → LedTo content after last b next
+  pub led_to-itself : (last : Seat (Kept T) (PlacedView T)) (a b : Account) (todo next : Todo) → LedTo content before after a todo → LedTo content after last b next
       → LedTo content before last (account_at content last) (todo_at last)
   led_to-itself last a b todo next one two = record {
     seat = record { table_id = two.seat.table_id ∙ one.seat.table_id; id = two.seat.id ∙ one.seat.id };
     session = two.session;
     number = two.number ∙ one.number;
-    lone = lone-then before.me.0 after.me.0 last.me.0 one.lone two.lone;
+    lone = lone-then (side_of before).0 (side_of after).0 (side_of last).0 one.lone two.lone;
     account = refl;
     quiet = two.quiet ∙ one.quiet;
     todo = refl;
     owed = two.owed ∙ one.owed;
-    others = others-then before.me.0 after.me.0 last.me.0 one.others two.others;
+    others = others-then (side_of before).0 (side_of after).0 (side_of last).0 one.others two.others;
   }
 
 -- Nothing was done.
-pub led-self : {T : Type 0} (content : T → Content) (seat : Seat (Kept T) (View T)) → HasSession seat.me.0
+pub led-self : {T : Type 0} (content : T → Content) (seat : Seat (Kept T) (PlacedView T)) → HasSession (side_of seat).0
     → Led content seat seat (account_at content seat)
 led-self content seat has = led-none content seat seat has (record { table_id = refl; id = refl }) refl
 
@@ -157,7 +158,7 @@ pub owes-none : {P : Type 0} (todo : Todo) (lock : ℕ) → todo.owes_release_ok
 owes-none todo lock none owes = let never : ◌≡◌ {A = Option ℕ} None (Some lock) = sym none ∙ owes in absurd (cc (never))
 
 -- A call that leaves as much to do goes on at the same seat.
-pub led-further : {T : Type 0} (content : T → Content) (before after : Seat (Kept T) (View T)) (a : Account) → Led content before after a → IsFurther before.me.0 after.me.0
+pub led-further : {T : Type 0} (content : T → Content) (before after : Seat (Kept T) (PlacedView T)) (a : Account) → Led content before after a → IsFurther (side_of before).0 (side_of after).0
 led-further content before after a led = record {
   next = led.others.next;
   closed = led.others.closed;
@@ -171,10 +172,10 @@ led-further content before after a led = record {
 
 -- A step whose mark is that of the number which it found.
 pub led-marked :
-    {T : Type 0} {content : T → Content} {before after : Seat (Kept T) (View T)} {mark its : ℕ → Mark T} (found : ℕ) → HasSession before.me.0 → IsSameSeat before after
-    → after.me ≡ (noting before.me.0 (mark found), before.me.1) → mark ≡ its → ((owed : List ℕ) → owed_noted owed (its found) ≡ owed)
+    {T : Type 0} {content : T → Content} {before after : Seat (Kept T) (PlacedView T)} {mark its : ℕ → Mark T} (found : ℕ) → HasSession (side_of before).0 → IsSameSeat before after
+    → (side_of after) ≡ (noting (side_of before).0 (mark found), (side_of before).1) → mark ≡ its → ((owed : List ℕ) → owed_noted owed (its found) ≡ owed)
     → LedBy content before after (noted content (number_at before) (account_at content before) (its found))
     (quiet_noted (quiet_at before) (its found)) (todo_noted (number_at before) (account_at content before).lists (todo_at before) (its found))
 led-marked {T} {content} {before} {after} {mark} {its} found has seat side same wakes =
     led-noted content before after (its found) has seat
-    (ap (λ (me : Side T). me.0) side ∙ ap (λ (m : ℕ → Mark T). noting before.me.0 (m found)) same) wakes
+    (ap (λ (me : Side T). me.0) side ∙ ap (λ (m : ℕ → Mark T). noting (side_of before).0 (m found)) same) wakes

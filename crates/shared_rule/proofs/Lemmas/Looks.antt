@@ -9,7 +9,7 @@ use Rattle.lock_world.specs.declared.events.Step.TheVariants as step
 use Rattle.lock_world.specs.WaitWord.{wait_state}
 use Rattle.lock_world.specs.World.{World}
 use Rattle.lock_world.specs.Wakes.Calling.{Calls, changing, asking}
-use Rattle.lock_world.specs.Wakes.{Beside, Turn, happened, saw_list_locked, saw_held, called_waiter, called_sleeper, beside_after, RunsBy}
+use Rattle.lock_world.specs.Wakes.{Beside, Turn, happened, saw_list_locked, saw_held, called_waiter, called_sleeper, parks_waiting, parks_asleep, beside_after, RunsBy}
 use Rattle.shared_rule.specs.declared.history.Mark.{Mark}
 use Rattle.shared_rule.specs.declared.history.Mark.TheVariants as mark
 use Rattle.shared_rule.specs.declared.history.WordMark.{WordMark}
@@ -36,6 +36,8 @@ looks_turn looks (saw_list_locked session lock) = looks
 looks_turn looks (saw_held session lock) = looks
 looks_turn looks (called_waiter session other) = looks
 looks_turn looks (called_sleeper session other) = looks
+looks_turn looks (parks_waiting session shown) = record looks { on_wait = Some shown }
+looks_turn looks (parks_asleep session shown) = record looks { on_sleep = Some shown }
 
 abbrev looks_after : OwnLooks → List Turn → OwnLooks
 looks_after looks [] = looks
@@ -156,6 +158,18 @@ turn-looks w b k (saw_list_locked s lock) = if-same (s == k) (looks_of b k)
 turn-looks w b k (saw_held s lock) = if-same (s == k) (looks_of b k)
 turn-looks w b k (called_waiter s o) = if-same (s == k) (looks_of b k)
 turn-looks w b k (called_sleeper s o) = if-same (s == k) (looks_of b k)
+turn-looks w b k (parks_waiting s n) = elim (cases_eq k s) [
+  | inl own ↦ (λ i. record { on_wait = set_at-here b.waits.looked s (Some n) k own i; on_sleep = b.sleeps.looked k })
+      ∙ sym (cond-true (s == k) (looks_turn (looks_of b k) (parks_waiting s n)) (looks_of b k) (eq-eqb s k (sym own)))
+  | inr other ↦ (λ i. record { on_wait = set_at-else b.waits.looked s (Some n) k other i; on_sleep = b.sleeps.looked k })
+      ∙ sym (cond-false (s == k) (looks_turn (looks_of b k) (parks_waiting s n)) (looks_of b k) (ne_eqb s k (λ e. other (sym e))))
+]
+turn-looks w b k (parks_asleep s n) = elim (cases_eq k s) [
+  | inl own ↦ (λ i. record { on_wait = b.waits.looked k; on_sleep = set_at-here b.sleeps.looked s (Some n) k own i })
+      ∙ sym (cond-true (s == k) (looks_turn (looks_of b k) (parks_asleep s n)) (looks_of b k) (eq-eqb s k (sym own)))
+  | inr other ↦ (λ i. record { on_wait = b.waits.looked k; on_sleep = set_at-else b.sleeps.looked s (Some n) k other i })
+      ∙ sym (cond-false (s == k) (looks_turn (looks_of b k) (parks_asleep s n)) (looks_of b k) (ne_eqb s k (λ e. other (sym e))))
+]
 
 -- A run.
 pub run-looks : (each : World → Beside → Turn → World → Type 0) (k : ℕ) (w : World) (b : Beside) (turns : List Turn) (v : World) (d : Beside) → RunsBy each w b turns v d
@@ -196,9 +210,11 @@ words-looks number word.UnlockedList its before told = sym (ap (looks_step befor
 words-looks number (word.SetReleaseOk lock) its before told = sym (ap (looks_step before) told.1.2)
 words-looks number (word.SetHasWaiters lock) its before told = sym (ap (looks_step before) told.1.2)
 words-looks number (word.SawListLocked lock) its before told = absurd told
-words-looks number (word.SawHeld lock) its before told = absurd told
+words-looks number (word.SawHeld lock shown) its before told = absurd told
 words-looks number (word.CalledWaiter other) its before told = absurd told
 words-looks number (word.CalledSleeper other) its before told = absurd told
+words-looks number (word.ParksWaiting shown) its before told = absurd told
+words-looks number (word.ParksAsleep shown) its before told = absurd told
 
 last-looks : (before : OwnLooks) (turns : List Turn) (last : Turn) → looks_after before (turns ++ last ∷ []) ≡ looks_turn (looks_after before turns) last
 last-looks before [] last = refl
@@ -216,9 +232,11 @@ module _ {T : Type 0} where
   mark-looks : (number : ℕ) (m : Mark T) (turn : Turn) (before : OwnLooks) → TellsTurn number m turn → looks_noted before m ≡ looks_turn before turn
   mark-looks number m (happened event) before told = step-looks number m event.step before told
   mark-looks number m (saw_list_locked s lock) before told = ap (looks_noted before) told
-  mark-looks number m (saw_held s lock) before told = ap (looks_noted before) told
+  mark-looks number m (saw_held s lock) before told = ap (looks_noted before) told.1
   mark-looks number m (called_waiter s o) before told = ap (looks_noted before) told
   mark-looks number m (called_sleeper s o) before told = ap (looks_noted before) told
+  mark-looks number m (parks_waiting s n) before told = ap (looks_noted before) told
+  mark-looks number m (parks_asleep s n) before told = ap (looks_noted before) told
 
   pub told-looks : (number : ℕ) (marks : List (Mark T)) (turns : List Turn) → AreTurnsTold number marks turns → looks_told marks ≡ looks_after no_looks turns
   told-looks number [] turns told = sym (ap (looks_after no_looks) told)

@@ -19,7 +19,7 @@ use Rattle.shared_rule.specs.declared.kept.Kept.{Kept}
 use Rattle.shared_rule.specs.declared.rule.TableSizes.{TableSizes}
 use Rattle.shared_rule.specs.Layout.{index_of_word}
 use Rattle.shared_rule.specs.Marks.{LoadedStrong}
-use Rattle.shared_rule.specs.Tells.{is_of_seats, is_step_of, steps_of, AreTold, LooksOnly, at_list, at_lock, calls_waiter, calls_sleeper, Leads}
+use Rattle.shared_rule.specs.Tells.{is_of_seats, is_step_of, steps_of, AreTold, LooksOnly, at_list, at_lock, calls_waiter, calls_sleeper, at_wait, at_sleep, Leads}
 use Rattle.shared_rule.specs.Ruled.{StandsAtSeat, NobodyElse, Ruled}
 use Rattle.shared_rule.proofs.Lemmas.GivenOut.{has-history}
 
@@ -28,12 +28,14 @@ use Rattle.shared_rule.proofs.Lemmas.GivenOut.{has-history}
 -- A load is no look, and no call.
 no-look : {T : Type 0} (index shown : ℕ) → LooksOnly (LoadedStrong {T = T} index shown) → ⊥
 no-look index shown (at_list lock is) = cc (is)
-no-look index shown (at_lock lock is) = cc (is)
+no-look index shown (at_lock lock showed is) = cc (is)
 no-look index shown (calls_waiter other is) = cc (is)
 no-look index shown (calls_sleeper other is) = cc (is)
+no-look index shown (at_wait showed is) = cc (is)
+no-look index shown (at_sleep showed is) = cc (is)
 
 -- Steps of seats leave all words as they are.
-seats-words : (w : World) (s : ℕ) (its : Step) (v : World) → is_of_seats its ≡ true → HappensStep w s its v → v.words ≡ w.words
+pub seats-words : (w : World) (s : ℕ) (its : Step) (v : World) → is_of_seats its ≡ true → HappensStep w s its v → v.words ≡ w.words
 seats-words w s SplitSeat v seats (inl issued) = ap (λ (z : World). z.words) issued.1
 seats-words w s SplitSeat v seats (inr goes_on) = ap (λ (z : World). z.words) goes_on.1
 seats-words w s (JoinSeat None) v seats happens = ap (λ (z : World). z.words) happens.1
@@ -41,13 +43,13 @@ seats-words w s (JoinSeat (Some joiner)) v seats happens = ap (λ (z : World). z
 seats-words w s its v seats happens = absurd (cc (seats))
 
 -- The first event of a list is of seats, or the session's own, or another's.
-own-or-not : (number : ℕ) (event : Event) → (is_step_of number event ≡ true) ⊎ (is_step_of number event ≡ false)
+pub own-or-not : (number : ℕ) (event : Event) → (is_step_of number event ≡ true) ⊎ (is_step_of number event ≡ false)
 own-or-not number event = cases_Bool (is_step_of number event)
 
-first-own : (number : ℕ) (event : Event) (events : List Event) → is_step_of number event ≡ true → steps_of number (event ∷ events) ≡ event.step ∷ steps_of number events
+pub first-own : (number : ℕ) (event : Event) (events : List Event) → is_step_of number event ≡ true → steps_of number (event ∷ events) ≡ event.step ∷ steps_of number events
 first-own number event events own = ap (λ b. map (λ (e : Event). e.step) (cond b (event ∷ filter (is_step_of number) events) (filter (is_step_of number) events))) own
 
-first-not : (number : ℕ) (event : Event) (events : List Event) → is_step_of number event ≡ false → steps_of number (event ∷ events) ≡ steps_of number events
+pub first-not : (number : ℕ) (event : Event) (events : List Event) → is_step_of number event ≡ false → steps_of number (event ∷ events) ≡ steps_of number events
 first-not number event events not_own = ap (λ b. map (λ (e : Event). e.step) (cond b (event ∷ filter (is_step_of number) events) (filter (is_step_of number) events))) not_own
 
 -- What is not a step of its own session is of seats.

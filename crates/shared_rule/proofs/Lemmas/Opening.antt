@@ -14,7 +14,9 @@ use Rattle.lock_table.specs.Total.{total}
 use Rattle.lock_world.proofs.Lemmas.SafeWorld.Opening.{opening-safe}
 use Rattle.shared_rule.specs.declared.history.History.{History}
 use Rattle.shared_rule.specs.declared.rule.TableSizes.{TableSizes}
+use Rattle.shared_rule.specs.declared.history.PlacedView.{PlacedView}
 use Rattle.shared_rule.specs.declared.history.View.{View}
+use Rattle.shared_rule.specs.Places.{AreInPlace, RuledInOrder, opening_in_place}
 use Rattle.shared_rule.specs.declared.kept.Kept.{Kept}
 use Rattle.shared_rule.specs.declared.kept.Kept.TheVariants as kept
 use Rattle.shared_rule.specs.Layout.{content_shelf_of, list_shelf_of}
@@ -194,3 +196,22 @@ module _ {T : Type 0} where
           empty = its.empty;
         }
   ]
+
+-- It meets it in order: nobody has made a step.
+none-placed : {T : Type 0} (these : View T → List (History T)) → ((place : ℕ) → slice_get (these opening_view) place ≡ None) → AreInPlace these (opening_in_place ∷ []) []
+none-placed {T} these none zero at placed history there stands =
+    let same : opening_in_place ≡ placed = some-injective opening_in_place placed there in
+    let never : ◌≡◌ {A = Option (History T)} None (Some history) = sym (none at) ∙ ap (λ (z : PlacedView T). slice_get (these z.view) at) same ∙ stands in absurd (cc (never))
+none-placed these none (suc seat) at placed history there stands = absurd (some-ne-none placed (sym there))
+
+pub opening-in-order : {T : Type 0} (content : T → Content) (begun : T → Option Request) (sizes : TableSizes) → sizes.sessions ≤ most_sessions → 0 < sizes.groups → sizes.groups ≤ most_groups
+    → (words : List ℕ) → WordsAreShown sizes words (opening 0 0).words → (slots : List (Kept T)) → AreNew content begun sizes.sessions slots
+    → RuledInOrder content begun sizes (table.opening words slots opening_in_place)
+unfolding opening-ruled
+opening-in-order content begun sizes few some_groups few_groups words shown slots new = record {
+  rule = opening-ruled content begun sizes few some_groups few_groups words shown slots new;
+  placed = record {
+    at_seat = none-placed (λ view. view.sessions) (λ _. refl);
+    closed = none-placed (λ view. view.closed) (λ _. refl);
+  };
+}

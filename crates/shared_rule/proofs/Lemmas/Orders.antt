@@ -83,9 +83,11 @@ words-shares number a (word.LoadedSleep shown) = refl
 words-shares number a (word.SetReleaseOk lock) = refl
 words-shares number a (word.SetHasWaiters lock) = refl
 words-shares number a (word.SawListLocked lock) = refl
-words-shares number a (word.SawHeld lock) = refl
+words-shares number a (word.SawHeld lock shown) = refl
 words-shares number a (word.CalledWaiter other) = refl
 words-shares number a (word.CalledSleeper other) = refl
+words-shares number a (word.ParksWaiting shown) = refl
+words-shares number a (word.ParksAsleep shown) = refl
 
 module _ {T : Type 0} (content : T → Content) where
   step-shares : (number : ℕ) (a : Account) (m : Mark T) → (noted content number a m).shares ≡ a.shares
@@ -163,7 +165,14 @@ module _ (w : World) (number : ℕ) (a : Account) (shows : a ≡ account w numbe
   no-slots o none (inl has) = no-one (a.fast.slots o) (none.no_slots o) has
   no-slots o none (inr has) = no-one (a.fast.shared_slots o) (none.no_shared_slots o) has
 
-  earlier-than : (l : LwLock) → IsLatestBy a l → (held : ℕ) → HasIn w number held → rank held < rank (lock_number l)
+  -- By its account the session has no lightweight lock at all.
+  pub no-lock-by : HasNoLock a → (held : ℕ) → HasIn w number held → ⊥
+  no-lock-by none held has = elim (cases_Bool (held % 2 == 0)) [
+    | inl even ↦ no-one (a.hand (held / 2)) (none.no_partition (held / 2)) (even-has held even has)
+    | inr odd ↦ no-slots (held / 2) none (odd-has held odd has)
+  ]
+
+  pub earlier-than : (l : LwLock) → IsLatestBy a l → (held : ℕ) → HasIn w number held → rank held < rank (lock_number l)
   earlier-than (OfPart p) latest held has = elim (cases_Bool (held % 2 == 0)) [
     | inl even ↦
         let low : held / 2 < p = below-hand p (held / 2) latest (even-has held even has) in
@@ -175,10 +184,7 @@ module _ (w : World) (number : ℕ) (a : Account) (shows : a ≡ account w numbe
         let own = rank-of_part p in
         omega (arith, its, own)
   ]
-  earlier-than (OfSlots o) latest held has = elim (cases_Bool (held % 2 == 0)) [
-    | inl even ↦ absurd (no-one (a.hand (held / 2)) (latest.no_partition (held / 2)) (even-has held even has))
-    | inr odd ↦ absurd (no-slots (held / 2) latest (odd-has held odd has))
-  ]
+  earlier-than (OfSlots o) latest held has = absurd (no-lock-by latest held has)
 
   bound-of : (sessions : ℕ) (l : LwLock) → LockExists sessions l → rank (lock_number l) < 17
   bound-of sessions (OfPart p) there = let own = rank-of_part p in omega (arith, own, there)

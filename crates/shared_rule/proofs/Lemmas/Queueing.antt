@@ -9,7 +9,7 @@ use Rattle.lock_table.specs.Content.{Content}
 use Rattle.lock_world.specs.Account.{Account, ListAccount}
 use Rattle.lock_world.specs.AccountSteps.{account_locking_list, account_unlocking_list, account_joining_list}
 use Rattle.lock_world.specs.AccountSteps.{account_leaving_list, account_taking_off, account_telling}
-use Rattle.shared_rule.specs.declared.history.View.{View}
+use Rattle.shared_rule.specs.declared.history.PlacedView.{PlacedView}
 use Rattle.shared_rule.specs.declared.kept.Kept.{Kept}
 use Rattle.shared_rule.specs.History.{list_here}
 use Rattle.shared_rule.specs.Led.{Led, LedTo}
@@ -23,7 +23,7 @@ use Rattle.shared_rule.proofs.Lemmas.Led.{led-then, led_to-then, led_to-as, led_
 
 -- What queueing, leaving a list and waking make of an account, step by step.
 
-module _ {T : Type 0} (content : T → Content) (before locked : Seat (Kept T) (View T)) (lock : ℕ) (waiters : List LwWaiter)
+module _ {T : Type 0} (content : T → Content) (before locked : Seat (Kept T) (PlacedView T)) (lock : ℕ) (waiters : List LwWaiter)
     (locks : Led content before locked (account_locking_list (account_at content before) lock waiters)) where
   abbrev a : Account
   a = account_at content before
@@ -37,7 +37,7 @@ module _ {T : Type 0} (content : T → Content) (before locked : Seat (Kept T) (
 
   -- Queueing: the list is locked, has-waiters set, the list joined and unlocked.
   pub queued :
-      (flagged joined after : Seat (Kept T) (View T)) (waiter : LwWaiter) → a.lists ≡ no_lists → TriesAtMost lock (todo_at before)
+      (flagged joined after : Seat (Kept T) (PlacedView T)) (waiter : LwWaiter) → a.lists ≡ no_lists → TriesAtMost lock (todo_at before)
       → Led content locked flagged (account_at content locked)
       → LedTo content flagged joined (account_joining_list (account_at content flagged) (list_here (account_at content flagged).lists.in_hand) waiter)
       (todo_queueing (todo_at flagged) (lock_of_list (account_at content flagged).lists.in_hand))
@@ -55,7 +55,7 @@ module _ {T : Type 0} (content : T → Content) (before locked : Seat (Kept T) (
 
   -- Leaving: it is locked, left and unlocked,
   pub dequeued :
-      (left after : Seat (Kept T) (View T)) (number : ℕ) → a.lists ≡ queued_for lock → todo_at before ≡ todo_got lock
+      (left after : Seat (Kept T) (PlacedView T)) (number : ℕ) → a.lists ≡ queued_for lock → todo_at before ≡ todo_got lock
       → LedTo content locked left (account_leaving_list (account_at content locked) (list_here (account_at content locked).lists.in_hand) number) (todo_leaving (todo_at locked))
       → Led content left after (account_unlocking_list (account_at content left))
       → LedTo content before after (record a { lists = no_lists }) nothing_to_do
@@ -83,7 +83,7 @@ module _ {T : Type 0} (content : T → Content) (before locked : Seat (Kept T) (
   -- or, where somebody has taken the session off, release-ok is set, the list unlocked, and the session
   -- sleeps until it is told.
   pub taken_off-told :
-      (flagged unlocked after : Seat (Kept T) (View T)) (number : ℕ) → a.lists ≡ queued_for lock → todo_at before ≡ todo_got lock → stands_in number waiters ≡ false
+      (flagged unlocked after : Seat (Kept T) (PlacedView T)) (number : ℕ) → a.lists ≡ queued_for lock → todo_at before ≡ todo_got lock → stands_in number waiters ≡ false
       → LedTo content locked flagged (account_at content locked) (todo_setting_ok number (account_at content locked).lists (todo_at locked) lock)
       → Led content flagged unlocked (account_unlocking_list (account_at content flagged))
       → Led content unlocked after (record (account_at content unlocked) { lists = record ((account_at content unlocked).lists) { stands = None } })

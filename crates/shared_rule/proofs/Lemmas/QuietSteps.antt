@@ -4,7 +4,7 @@ use Rattle.shared_rule.specs.declared.history.Mark.{Mark}
 use Rattle.shared_rule.specs.declared.history.Mark.TheVariants as mark
 use Rattle.shared_rule.specs.declared.history.WordMark.{WordMark}
 use Rattle.shared_rule.specs.declared.history.WordMark.TheVariants as word
-use Rattle.shared_rule.specs.Tells.{WordsTell, Tells, LooksOnly, at_list, at_lock, calls_waiter, calls_sleeper, AreTold}
+use Rattle.shared_rule.specs.Tells.{WordsTell, Tells, LooksOnly, at_list, at_lock, calls_waiter, calls_sleeper, at_wait, at_sleep, AreTold}
 use Rattle.shared_rule.specs.Quiet.{Quiet, quiet_words, quiet_noted, quiet_told, quiet_after, quiet_of}
 
 -- A session's quiet steps are those of the steps that it made.
@@ -39,9 +39,11 @@ words-quiet number word.UnlockedList its before told = sym (ap (quiet_after befo
 words-quiet number (word.SetReleaseOk lock) its before told = sym (ap (quiet_after before) told.1.2)
 words-quiet number (word.SetHasWaiters lock) its before told = sym (ap (quiet_after before) told.1.2)
 words-quiet number (word.SawListLocked lock) its before told = absurd told
-words-quiet number (word.SawHeld lock) its before told = absurd told
+words-quiet number (word.SawHeld lock shown) its before told = absurd told
 words-quiet number (word.CalledWaiter other) its before told = absurd told
 words-quiet number (word.CalledSleeper other) its before told = absurd told
+words-quiet number (word.ParksWaiting shown) its before told = absurd told
+words-quiet number (word.ParksAsleep shown) its before told = absurd told
 
 -- The last step comes last.
 last-quiet : (before : List Quiet) (steps : List Step) (last : Step) → quiet_of before (steps ++ last ∷ []) ≡ quiet_after (quiet_of before steps) last
@@ -60,9 +62,11 @@ module _ {T : Type 0} where
   -- A look, or a call, adds nothing.
   look-quiet : (m : Mark T) (before : List Quiet) → LooksOnly m → quiet_noted before m ≡ before
   look-quiet m before (at_list lock is) = ap (quiet_noted before) is
-  look-quiet m before (at_lock lock is) = ap (quiet_noted before) is
+  look-quiet m before (at_lock lock shown is) = ap (quiet_noted before) is
   look-quiet m before (calls_waiter other is) = ap (quiet_noted before) is
   look-quiet m before (calls_sleeper other is) = ap (quiet_noted before) is
+  look-quiet m before (at_wait shown is) = ap (quiet_noted before) is
+  look-quiet m before (at_sleep shown is) = ap (quiet_noted before) is
 
   pub told-quiet : (number : ℕ) (marks : List (Mark T)) (steps : List Step) → AreTold number marks steps → quiet_told marks ≡ quiet_of [] steps
   told-quiet number [] steps told = sym (ap (quiet_of []) told)

@@ -85,9 +85,11 @@ words-no_seats number (words.LoadedSleep shown) its tells = ap is_of_seats tells
 words-no_seats number (words.SetReleaseOk lock) its tells = ap is_of_seats tells.1.2
 words-no_seats number (words.SetHasWaiters lock) its tells = ap is_of_seats tells.1.2
 words-no_seats number (words.SawListLocked lock) its tells = absurd tells
-words-no_seats number (words.SawHeld lock) its tells = absurd tells
+words-no_seats number (words.SawHeld lock shown) its tells = absurd tells
 words-no_seats number (words.CalledWaiter other) its tells = absurd tells
 words-no_seats number (words.CalledSleeper other) its tells = absurd tells
+words-no_seats number (words.ParksWaiting shown) its tells = absurd tells
+words-no_seats number (words.ParksAsleep shown) its tells = absurd tells
 
 pub tells-no_seats : {T : Type 0} (number : ℕ) (mark : Mark T) (its : Step) → Tells number mark its → is_of_seats its ≡ false
 tells-no_seats number (TookPart part taken) its tells = ap is_of_seats tells

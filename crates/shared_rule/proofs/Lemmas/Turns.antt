@@ -3,7 +3,7 @@ use Rattle.std.proofs.lemmas.List.{append-nil}
 use Rattle.std.proofs.lemmas.List.Elements.{filter-append}
 use mathlib.Core.Bool.{cond}
 use Rattle.lock_world.specs.declared.events.Event.{Event}
-use Rattle.lock_world.specs.Wakes.{Turn, happened, saw_list_locked, saw_held, called_waiter, called_sleeper}
+use Rattle.lock_world.specs.Wakes.{Turn, happened, saw_list_locked, saw_held, called_waiter, called_sleeper, parks_waiting, parks_asleep}
 use Rattle.shared_rule.specs.declared.history.Mark.{Mark}
 use Rattle.shared_rule.specs.Tells.{TellsTurn, AreTurnsTold, events_of, is_turn_of, turns_of}
 
@@ -16,6 +16,8 @@ events-push (saw_list_locked s lock ∷ turns) event = events-push turns event
 events-push (saw_held s lock ∷ turns) event = events-push turns event
 events-push (called_waiter s other ∷ turns) event = events-push turns event
 events-push (called_sleeper s other ∷ turns) event = events-push turns event
+events-push (parks_waiting s shown ∷ turns) event = events-push turns event
+events-push (parks_asleep s shown ∷ turns) event = events-push turns event
 
 -- A turn that is no event leaves the events.
 pub events-look : (turns : List Turn) (turn : Turn) → events_of (turn ∷ []) ≡ [] → events_of (turns ++ turn ∷ []) ≡ events_of turns
@@ -25,6 +27,8 @@ events-look (saw_list_locked s lock ∷ turns) turn none = events-look turns tur
 events-look (saw_held s lock ∷ turns) turn none = events-look turns turn none
 events-look (called_waiter s other ∷ turns) turn none = events-look turns turn none
 events-look (called_sleeper s other ∷ turns) turn none = events-look turns turn none
+events-look (parks_waiting s shown ∷ turns) turn none = events-look turns turn none
+events-look (parks_asleep s shown ∷ turns) turn none = events-look turns turn none
 
 -- The turns of a session after one more: with it, where it is the session's, and else as they were.
 turns-own : (number : ℕ) (turns : List Turn) (turn : Turn) → is_turn_of number turn ≡ true → turns_of number (turns ++ turn ∷ []) ≡ turns_of number turns ++ turn ∷ []

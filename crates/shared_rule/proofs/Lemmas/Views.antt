@@ -25,6 +25,7 @@ use Rattle.shared_rule.specs.declared.history.View.{View}
 use Rattle.shared_rule.specs.declared.kept.Kept.{Kept}
 use Rattle.shared_rule.specs.History.{blank_account, told, lone, spent_view}
 use Rattle.shared_rule.specs.Tells.{is_of_seats}
+use Rattle.shared_rule.specs.Allowed.{RuledSeats}
 use Rattle.shared_rule.specs.Ruled.{WakesAreKept, IsClosed, OpenerHasClosed, HistoryIsShown, IsBehind, SeatsAreShown, StandsClosed, StepsAreTold, HasClosedSo, Ruled}
 use Rattle.shared_rule.proofs.Lemmas.Told.{leads-push, told-seats, closed_so-push}
 use Rattle.shared_rule.proofs.Lemmas.Standing.{there-within, there-one}
@@ -213,21 +214,24 @@ module _ {T : Type 0} (content : T → Content) (begun : T → Option Request) (
       → SafeWorld (with_numbers r.world numbers) → SeatsAreShown content views (with_numbers r.world numbers) → OpenerHasClosed views numbers
       → is_of_seats event.step ≡ true → StepsAreTold views numbers r.events → ((h : History T) → StandsClosed views h → StandsClosed s.views h)
       → WakesAreKept sizes views (r.events ++ event ∷ []) (with_numbers r.world numbers)
-      → Ruled content begun sizes (record { words = s.words; homes = s.homes; views = views })
+      → RuledSeats content begun sizes r.events (record { words = s.words; homes = s.homes; views = views })
   ruled-numbered event numbers views happens same safe seats closed of_seats told stood wakes = record {
-    world = with_numbers r.world numbers;
-    events = r.events ++ event ∷ [];
-    run = leads-push (opening sizes.sessions sizes.groups) r.events event r.world (with_numbers r.world numbers) r.run happens;
-    steps = told-seats views numbers r.events event of_seats told;
-    closed_so = λ h stands.
-        closed_so-push content (opening sizes.sessions sizes.groups) r.world (with_numbers r.world numbers) r.events event h happens (r.closed_so h (stood h stands));
-    safe = safe;
-    is_limit = same ∙ r.is_limit;
-    are_groups = groups-stay r.world (with_numbers r.world numbers) event happens ∙ r.are_groups;
-    shown = r.shown;
-    seats = seats;
-    closed = closed;
-    wakes = wakes;
+    goes_on = inr (event, of_seats, refl);
+    rule = record {
+      world = with_numbers r.world numbers;
+      events = r.events ++ event ∷ [];
+      run = leads-push (opening sizes.sessions sizes.groups) r.events event r.world (with_numbers r.world numbers) r.run happens;
+      steps = told-seats views numbers r.events event of_seats told;
+      closed_so = λ h stands.
+          closed_so-push content (opening sizes.sessions sizes.groups) r.world (with_numbers r.world numbers) r.events event h happens (r.closed_so h (stood h stands));
+      safe = safe;
+      is_limit = same ∙ r.is_limit;
+      are_groups = groups-stay r.world (with_numbers r.world numbers) event happens ∙ r.are_groups;
+      shown = r.shown;
+      seats = seats;
+      closed = closed;
+      wakes = wakes;
+    };
   }
 
   -- and in the World in which a session has closed.
@@ -237,23 +241,26 @@ module _ {T : Type 0} (content : T → Content) (begun : T → Option Request) (
       → StepsAreTold views (after_closing r.world k).numbers r.events
       → ((h : History T) → StandsClosed views h → StandsClosed s.views h ⊎ (h ≡ record { number = k; marks = marks }))
       → WakesAreKept sizes views (r.events ++ record { session = k; step = JoinSeat None } ∷ []) (after_closing r.world k)
-      → Ruled content begun sizes (record { words = s.words; homes = s.homes; views = views })
+      → RuledSeats content begun sizes r.events (record { words = s.words; homes = s.homes; views = views })
   ruled-closed k marks views may safe seats closed shown its_steps stood wakes = record {
-    world = after_closing r.world k;
-    events = r.events ++ event ∷ [];
-    run = leads-push first r.events event r.world (after_closing r.world k) r.run (may, refl);
-    steps = told-seats views (after_closing r.world k).numbers r.events event refl its_steps;
-    closed_so = λ h stands. elim (stood h stands) [
-      | inl old ↦ closed_so-push content first r.world (after_closing r.world k) r.events event h (may, refl) (r.closed_so h old)
-      | inr same ↦ subst (HasClosedSo content first (after_closing r.world k) (r.events ++ event ∷ [])) (sym same) now
-    ];
-    safe = safe;
-    is_limit = r.is_limit;
-    are_groups = r.are_groups;
-    shown = r.shown;
-    seats = seats;
-    closed = closed;
-    wakes = wakes;
+    goes_on = inr (event, refl, refl);
+    rule = record {
+      world = after_closing r.world k;
+      events = r.events ++ event ∷ [];
+      run = leads-push first r.events event r.world (after_closing r.world k) r.run (may, refl);
+      steps = told-seats views (after_closing r.world k).numbers r.events event refl its_steps;
+      closed_so = λ h stands. elim (stood h stands) [
+        | inl old ↦ closed_so-push content first r.world (after_closing r.world k) r.events event h (may, refl) (r.closed_so h old)
+        | inr same ↦ subst (HasClosedSo content first (after_closing r.world k) (r.events ++ event ∷ [])) (sym same) now
+      ];
+      safe = safe;
+      is_limit = r.is_limit;
+      are_groups = r.are_groups;
+      shown = r.shown;
+      seats = seats;
+      closed = closed;
+      wakes = wakes;
+    };
   } where
     first : World
     first = opening sizes.sessions sizes.groups

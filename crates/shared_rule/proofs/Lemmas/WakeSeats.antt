@@ -2,14 +2,15 @@ use Rattle.std.proofs.Common.{◌≡◌, ℕ, ◌≤◌, true, List, [], ◌∷�
 use Rattle.lock_world.specs.declared.events.Event.{Event}
 use Rattle.lock_world.specs.World.{World, opening}
 use Rattle.lock_world.specs.Happens.{Happens}
-use Rattle.lock_world.specs.Wakes.{Beside, nothing_beside, Turn, happened, beside_after, KeepsInOrder, RunsBy}
-use Rattle.lock_world.specs.Wakes.Owing.{Asks, AsksInOrder}
+use Rattle.lock_world.specs.Wakes.{Beside, nothing_beside, Turn, happened, beside_after, KeepsInOrder}
+use Rattle.lock_world.specs.Wakes.Calling.{Calls}
+use Rattle.lock_world.specs.Wakes.Owing.{Duties, Asks, AsksInOrder}
 use Rattle.lock_world.proofs.Lemmas.Wakes.Runs.{run-push}
 use Rattle.shared_rule.specs.declared.history.History.{History}
 use Rattle.shared_rule.specs.declared.history.View.{View}
 use Rattle.shared_rule.specs.declared.rule.TableSizes.{TableSizes}
 use Rattle.shared_rule.specs.Owed.{owed_told}
-use Rattle.shared_rule.specs.Ruled.{todo_of, OwesAsTold, StandsAtSeat, StandsClosed, WakesAreKept}
+use Rattle.shared_rule.specs.Ruled.{todo_of, todo_with, OwesAsTold, StandsAtSeat, StandsClosed, WakesAreKept}
 use Rattle.shared_rule.specs.Tells.{AreTurnsTold, is_of_seats, turns_of}
 use Rattle.shared_rule.specs.Todos.{todo_told_by, flagged_told_by}
 use Rattle.shared_rule.proofs.Lemmas.Told.{of_seats}
@@ -37,7 +38,17 @@ new-tells sizes views events w kept number later =
 
 module _ {T : Type 0} (sizes : TableSizes) (views after : List (View T)) (events : List Event) (w v : World) (event : Event) (happens : Happens w event v) (kept : WakesAreKept sizes views events w)
     (asks : Asks w kept.beside.duties kept.beside.waits kept.beside.sleeps event.session event.step) (in_order : AsksInOrder w event.session event.step)
-    (seats : is_of_seats event.step ≡ true) (same : beside_after w kept.beside (happened event) ≡ kept.beside) where
+    (seats : is_of_seats event.step ≡ true) (duties : (beside_after w kept.beside (happened event)).duties ≡ kept.beside.duties)
+    (waits : (beside_after w kept.beside (happened event)).waits ≡ kept.beside.waits) (sleeps : (beside_after w kept.beside (happened event)).sleeps ≡ kept.beside.sleeps) where
+  abbrev beside_next : Beside
+  beside_next = beside_after w kept.beside (happened event)
+
+  todo-still : (k : ℕ) → todo_of beside_next k ≡ todo_of kept.beside k
+  todo-still k i = todo_with (duties i) ((sleeps i).owed k) k
+
+  owed-still : (k : ℕ) (owed : List ℕ) → OwesAsTold kept.beside k owed → OwesAsTold beside_next k owed
+  owed-still k owed was o owes = was o (ap (λ (c : Calls). c.owed k o) (sym waits) ∙ owes)
+
   still : (k : ℕ) → turns_of k (kept.turns ++ happened event ∷ []) ≡ turns_of k kept.turns
   still k = turns-beside k kept.turns (happened event) (of_seats k event seats)
 
@@ -46,24 +57,20 @@ module _ {T : Type 0} (sizes : TableSizes) (views after : List (View T)) (events
       → ((k : ℕ) → v.numbers.issued ≤ k → w.numbers.issued ≤ k) → WakesAreKept sizes after (events ++ event ∷ []) v
   wakes-seated each closed issued = record {
     turns = kept.turns ++ happened event ∷ [];
-    beside = kept.beside;
-    run = (
-      kept.run.0,
-      subst (RunsBy KeepsInOrder (opening sizes.sessions sizes.groups) nothing_beside (kept.turns ++ happened event ∷ []) v) same
-          (run-push KeepsInOrder (opening sizes.sessions sizes.groups) w v nothing_beside kept.beside kept.turns (happened event) kept.run.1 ((happens, asks), in_order)),
-    );
+    beside = beside_next;
+    run = (kept.run.0, run-push KeepsInOrder (opening sizes.sessions sizes.groups) w v nothing_beside kept.beside kept.turns (happened event) kept.run.1 ((happens, asks), in_order));
     events_ = events-push kept.turns event ∙ ap (λ its. its ++ event ∷ []) kept.events_;
     told = record {
       at_seat = λ h stands. subst (AreTurnsTold h.number h.marks) (sym (still h.number)) (each h stands).turns_;
       closed = λ h stands. subst (AreTurnsTold h.number h.marks) (sym (still h.number)) (closed h stands);
       none = λ k later. still k ∙ kept.told.none k (issued k later);
     };
-    todo = λ h stands. (each h stands).todo;
-    flagged = λ h stands. (each h stands).flagged;
-    owed = λ h stands. (each h stands).owed;
-    none_todo = λ k later. kept.none_todo k (issued k later);
-    none_flagged = λ k later. kept.none_flagged k (issued k later);
-    none_owed = λ k later. kept.none_owed k (issued k later);
+    todo = λ h stands. (each h stands).todo ∙ sym (todo-still h.number);
+    flagged = λ h stands. (each h stands).flagged ∙ ap (λ (d : Duties). d.flagged h.number) (sym duties);
+    owed = λ h stands. owed-still h.number (owed_told h.marks) (each h stands).owed;
+    none_todo = λ k later. kept.none_todo k (issued k later) ∙ sym (todo-still k);
+    none_flagged = λ k later. kept.none_flagged k (issued k later) ∙ ap (λ (d : Duties). d.flagged k) (sym duties);
+    none_owed = λ k later. owed-still k [] (kept.none_owed k (issued k later));
   }
 
 -- Where nothing happened but that histories stand elsewhere.

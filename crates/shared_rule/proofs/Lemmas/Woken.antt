@@ -8,7 +8,7 @@ use Rattle.lw_word.proofs.Lemmas.Waits.{wakeup-somebody}
 use Rattle.lock_table.specs.Content.{Content}
 use Rattle.lock_world.specs.Account.{Account, ListAccount}
 use Rattle.lock_world.specs.AccountSteps.{account_locking_list, account_unlocking_list, account_taking_off}
-use Rattle.shared_rule.specs.declared.history.View.{View}
+use Rattle.shared_rule.specs.declared.history.PlacedView.{PlacedView}
 use Rattle.shared_rule.specs.declared.kept.Kept.{Kept}
 use Rattle.shared_rule.specs.History.{list_here}
 use Rattle.lock_table.proofs.Lemmas.Put.{set_at-here, set_at-else}
@@ -81,7 +81,7 @@ all-called todo ws nobody =
         | inr away ↦ called-away ws (all_owed todo ws) k away ∙ owed-away ws todo k away
       ]
 
-module _ {T : Type 0} (content : T → Content) (before locked : Seat (Kept T) (View T)) (lock : ℕ) (ws : List LwWaiter) (todo : Todo)
+module _ {T : Type 0} (content : T → Content) (before locked : Seat (Kept T) (PlacedView T)) (lock : ℕ) (ws : List LwWaiter) (todo : Todo)
     (locks : LedTo content before locked (account_locking_list (account_at content before) lock ws) todo)
     (idle : (account_at content before).lists ≡ no_lists) (once : (k : ℕ) → times_in k ws ≤ 1)
     (other : stands_in (number_at before) ws ≡ false) (taken : List LwWaiter) (is : taken ≡ taken_off ws) where
@@ -98,7 +98,7 @@ module _ {T : Type 0} (content : T → Content) (before locked : Seat (Kept T) (
       (subst (λ n. MayTakeAllOff n (account_at content locked) (taken_off ws)) (sym locks.number)
       (subst (λ b. MayTakeAllOff (number_at before) b (taken_off ws)) (sym at-locked) (may_take-off (number_at before) a lock ws once other)))
 
-  module _ (off : Seat (Kept T) (View T)) (takes : LedTo content locked off (all_taken_off (account_at content locked) taken) (all_owed (todo_at locked) taken)) where
+  module _ (off : Seat (Kept T) (PlacedView T)) (takes : LedTo content locked off (all_taken_off (account_at content locked) taken) (all_owed (todo_at locked) taken)) where
     at-off : account_at content off ≡ with_list a lock (left_waiting ws) (λ k. stands_in k (taken_off ws))
     at-off = takes.account ∙ ap (all_taken_off (account_at content locked)) is ∙ ap (λ b. all_taken_off b (taken_off ws)) at-locked
         ∙ left-waiting (number_at before) a lock ws once other
@@ -106,7 +106,7 @@ module _ {T : Type 0} (content : T → Content) (before locked : Seat (Kept T) (
     pub left-in_hand : (left : List LwWaiter) → left ≡ left_waiting ws → (account_at content off).lists.in_hand ≡ Some (record { lock = lock; waiters = left })
     left-in_hand left same = ap (λ (b : Account). b.lists.in_hand) at-off ∙ ap (λ (waiters : List LwWaiter). Some (record { lock = lock; waiters = waiters })) (sym same)
 
-    module _ (unlocked : Seat (Kept T) (View T)) (unlocks : Led content off unlocked (account_unlocking_list (account_at content off))) where
+    module _ (unlocked : Seat (Kept T) (PlacedView T)) (unlocks : Led content off unlocked (account_unlocking_list (account_at content off))) where
       at-unlocked : account_at content unlocked ≡ to_tell a (λ k. stands_in k (taken_off ws))
       at-unlocked = unlocks.account ∙ ap account_unlocking_list at-off
 
@@ -115,7 +115,7 @@ module _ {T : Type 0} (content : T → Content) (before locked : Seat (Kept T) (
           subst (MayTellAll (account_at content unlocked)) (sym same)
           (subst (λ b. MayTellAll b (taken_off ws)) (sym at-unlocked) (may_tell-all (number_at before) a lock ws once other))
 
-      pub woken : (after : Seat (Kept T) (View T)) (its : List LwWaiter) → its ≡ taken_off ws → todo.calls ≡ (λ _. false)
+      pub woken : (after : Seat (Kept T) (PlacedView T)) (its : List LwWaiter) → its ≡ taken_off ws → todo.calls ≡ (λ _. false)
           → LedTo content unlocked after (all_told (account_at content unlocked) its) (all_called (todo_at unlocked) its)
           → LedTo content before after a todo
       woken after its same nobody tells =

@@ -10,9 +10,8 @@ use Rattle.lock_world.specs.Happens.Seats.{after_issuing}
 use Rattle.lock_world.specs.Happens.Slots.{after_taking_fast, after_putting_fast}
 use Rattle.lock_world.specs.Happens.Lists.{after_locking_fast_list, after_unlocking_fast_list, after_flagging_fast, after_joining_list, after_taking_off_the_list, after_telling_one, after_loading_sleep}
 use Rattle.lock_world.specs.Wakes.Waking.{HasLock, IsAsleep, tries_next, nobody_waits}
-use Rattle.lock_world.specs.Wakes.Calling.{IsParked, ShowsUntold}
-use Rattle.lock_world.specs.Wakes.Owing.{waking, IsLatest}
-use Rattle.lock_world.specs.Wakes.{Beside, nothing_beside, Turn, happened, saw_held, called_sleeper, KeepsInOrder, beside_after, RunsBy, SleepAndWakeup}
+use Rattle.lock_world.specs.Wakes.Owing.{waking, MaySleep, IsLatest}
+use Rattle.lock_world.specs.Wakes.{Beside, nothing_beside, Turn, happened, saw_held, called_sleeper, parks_asleep, KeepsInOrder, beside_after, RunsBy, IsParkedAsleep, SleepAndWakeup}
 use Rattle.lock_world.proofs.Lemmas.Wakes.Readings.{none-some, some-same}
 use Rattle.lock_world.proofs.Lemmas.Wakes.Runs.{none-held}
 
@@ -79,7 +78,7 @@ abbrev to_sleep : List Turn
 to_sleep =
     made 0 SplitSeat ∷ made 1 SplitSeat ∷ made 0 (TakeExclusive (Fast 0)) ∷ made 1 (LockList (Fast 0))
     ∷ made 1 (SetHasWaiters (Fast 0) (list_locked.words.fast 0)) ∷ made 1 (JoinList Exclusive) ∷ made 1 (UnlockList (Fast 0) true true)
-    ∷ saw_held 1 1 ∷ made 1 (LoadSleep 1) ∷ []
+    ∷ saw_held 1 1 ∷ made 1 (LoadSleep 1) ∷ parks_asleep 1 1 ∷ []
 
 abbrev to_wake : List Turn
 to_wake =
@@ -112,8 +111,11 @@ beside_queued = beside_after joined beside_joined (made 1 (UnlockList (Fast 0) t
 abbrev beside_held_seen : Beside
 beside_held_seen = beside_after queued beside_queued (saw_held 1 1)
 
+abbrev beside_loaded : Beside
+beside_loaded = beside_after queued beside_held_seen (made 1 (LoadSleep 1))
+
 abbrev beside_asleep : Beside
-beside_asleep = beside_after queued beside_held_seen (made 1 (LoadSleep 1))
+beside_asleep = beside_after asleep beside_loaded (parks_asleep 1 1)
 
 abbrev beside_put : Beside
 beside_put = beside_after asleep beside_asleep (made 0 (PutExclusive (Fast 0) Keep))
@@ -144,6 +146,19 @@ beside_won = beside_after released beside_released (made 1 (TakeExclusive (Fast 
 
 steps : (w : World) (s : ℕ) → w.numbers.live s ≡ true → w.numbers.kept_by s ≡ None → MakesSteps w.numbers s
 steps w s live by_itself = record { live = live; by_itself = by_itself }
+
+may-sleep-there : MaySleep asleep beside_loaded.duties beside_loaded.waits beside_loaded.sleeps 1
+may-sleep-there = record {
+  lock = 1;
+  stands = refl;
+  not_won = λ has. absurd (none-held 1 has);
+  no_look = refl;
+  no_try = refl;
+  no_list = refl;
+  tells_nobody = λ o. refl;
+  calls_no_waiter = λ o. refl;
+  calls_no_sleeper = λ o. refl;
+}
 
 pub goes-to-sleep : RunsBy KeepsInOrder (opening 2 1) nothing_beside to_sleep asleep beside_asleep
 goes-to-sleep = (
@@ -179,7 +194,11 @@ goes-to-sleep = (
                 (
                   asleep,
                   (((record { steps = steps queued 1 refl refl; is_word = refl }, refl), tt), tt),
-                  (refl, refl),
+                  (
+                    asleep,
+                    ((refl, may-sleep-there, refl), tt),
+                    (refl, refl),
+                  ),
                 ),
               ),
             ),
@@ -201,8 +220,8 @@ sleeps-there = record {
   not_won = λ has. absurd (none-held 1 has);
 }
 
-pub parks-there : IsParked ShowsUntold beside_asleep.sleeps 1 1
-parks-there = record { looked = refl; parks_on = λ none. let e : 1 ≡ 0 = none in omega (arith, e); uncalled = refl; owes_none = λ o. refl }
+pub parks-there : IsParkedAsleep beside_asleep 1 1
+parks-there = record { by_last_turn = refl; looked = refl; parks_on = λ none. let e : 1 ≡ 0 = none in omega (arith, e); uncalled = refl }
 
 pub wakes-up : RunsBy KeepsInOrder asleep beside_asleep to_wake won beside_won
 wakes-up = (

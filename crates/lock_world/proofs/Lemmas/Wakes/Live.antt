@@ -20,7 +20,7 @@ use Rattle.lock_world.specs.Happens.Seats.{HappensJoining}
 use Rattle.lock_world.specs.Wakes.Owing.{Duties, lock_bit, HasIn, is_lock, ok_set_by_told, ok_set_by_winner, ok_set_before_told, ok_set_as_owed, after_setting_ok, lock_of, HasNothingToDo, Asks}
 use Rattle.lock_world.specs.WaitWord.{wait_state}
 use Rattle.lock_world.specs.Wakes.Calling.{Calls, changing}
-use Rattle.lock_world.specs.Wakes.{Beside, Turn, happened, saw_list_locked, saw_held, called_waiter, called_sleeper, Keeps, beside_after, MakesNoStep, OnlyLiveOwe}
+use Rattle.lock_world.specs.Wakes.{Beside, Turn, happened, saw_list_locked, saw_held, called_waiter, called_sleeper, parks_waiting, parks_asleep, Keeps, beside_after, MakesNoStep, OnlyLiveOwe}
 use Rattle.lock_world.proofs.Lemmas.Others.Events.{event-others}
 use Rattle.lock_world.proofs.Lemmas.Wakes.Readings.{none-some, none-kept}
 use Rattle.lock_world.proofs.Lemmas.Wakes.Steppers.{IsNoSeat, step-makes, makes-some}
@@ -100,7 +100,7 @@ module _ (w : World) (b : Beside) (s k : ℕ) (other : k ≢ s) where
 abbrev HasNothing : World → Beside → ℕ → Type 0
 HasNothing w b k = HasNothingToDo w b.duties b.waits b.sleeps k
 
-same-nothing :
+pub same-nothing :
     (w v : World) (b d : Beside) (k : ℕ) → HasNothing w b k → Alone b d k → ((l : ℕ) → HasIn v k l → HasIn w k l) → v.sessions.has_list k ≡ None → ((o : ℕ) → v.sessions.off k o ≡ false)
     → HasNothing v d k
 same-nothing w v b d k was alone had no_list none = record {
@@ -142,16 +142,19 @@ module _ (w v : World) (k : ℕ) (safe : SafeWorld w) (after : SafeWorld v) (sam
       sym (known (v.sessions.shares_fast k o) (v.words.database o) (v.words.slot o)) ∙ ap (λ a. is_some (a.fast.shared_slots o)) same
       ∙ known (w.sessions.shares_fast k o) (w.words.database o) (w.words.slot o)
 
-  had-before : (l : ℕ) → HasIn v k l → HasIn w k l
+  pub had-before : (l : ℕ) → HasIn v k l → HasIn w k l
   had-before l (inl has) = inl (sym (λ i. lock_bit (λ p. holds_partition-same p i) (λ o. holds_fast-same o i) l) ∙ has)
   had-before l (inr has) = inr (sym (λ i. lock_bit (λ p. ap (λ a. a.shares p) same i) (λ o. shares_fast-same o i) l) ∙ has)
 
-no-hand : (has : Option ℕ) (list : ℕ → List LwWaiter) → list_in_hand has list ≡ None → has ≡ None
+pub no-hand : (has : Option ℕ) (list : ℕ → List LwWaiter) → list_in_hand has list ≡ None → has ≡ None
 no-hand None list none = refl
 no-hand (Some l) list none = absurd (cc)
 
 -- The session that makes the step itself.
 module _ (w v : World) (b : Beside) (s : ℕ) (only : OnlyLiveOwe w b) where
+  abbrev next : Step → Beside
+  next its = beside_after w b (happened (record { session = s; step = its }))
+
   splitting-mine : HappensStep w s SplitSeat v → MakesNoStep v.numbers s → HasNothing v b s
   splitting-mine (inl h) (inl dead) = absurd (both_ways (v.numbers.live s) dead (ap (λ a. a.numbers.live s) h.1 ∙ set_at-here w.numbers.live s true s refl))
   splitting-mine (inl h) (inr kept) =
@@ -176,37 +179,37 @@ module _ (w v : World) (b : Beside) (s : ℕ) (only : OnlyLiveOwe w b) where
       absurd (makes-some w.numbers s (makes.0) (subst (λ n. MakesNoStep n s) (makes.1) spent))
 
   step-mine : (step : Step) → HappensStep w s step v → Asks w b.duties b.waits b.sleeps s step → MakesNoStep v.numbers s
-      → HasNothing v (beside_after w b (happened (record { session = s; step = step }))) s
-  step-mine SplitSeat h asks spent = same-nothing v v b _ s (splitting-mine h spent) (nothing b s) (λ l has. has) ((splitting-mine h spent).no_list) ((splitting-mine h spent).tells_nobody)
+      → HasNothing v (next step) s
+  step-mine SplitSeat h asks spent = same-nothing v v b (next SplitSeat) s (splitting-mine h spent) (nothing b s) (λ l has. has) ((splitting-mine h spent).no_list) ((splitting-mine h spent).tells_nobody)
   step-mine (JoinSeat joiner) h asks spent =
-      let mine = joining-mine joiner h asks in same-nothing v v b _ s mine (nothing b s) (λ l has. has) (mine.no_list) (mine.tells_nobody)
-  step-mine (TakeExclusive word) h asks spent = no-seat (TakeExclusive word) tt h spent _
-  step-mine (PutExclusive word done) h asks spent = no-seat (PutExclusive word done) tt h spent _
-  step-mine (TakeShared word) h asks spent = no-seat (TakeShared word) tt h spent _
-  step-mine (PutShared word) h asks spent = no-seat (PutShared word) tt h spent _
-  step-mine (AskCancel o) h asks spent = no-seat (AskCancel o) tt h spent _
-  step-mine (LoadWait n) h asks spent = no-seat (LoadWait n) tt h spent _
-  step-mine (SetWaiting t m) h asks spent = no-seat (SetWaiting t m) tt h spent _
-  step-mine (MarkGranted o done) h asks spent = no-seat (MarkGranted o done) tt h spent _
-  step-mine (ClearWait leaving) h asks spent = no-seat (ClearWait leaving) tt h spent _
-  step-mine (PutPassing o t m) h asks spent = no-seat (PutPassing o t m) tt h spent _
-  step-mine (LoadStrong i n) h asks spent = no-seat (LoadStrong i n) tt h spent _
-  step-mine (LoadWord word n) h asks spent = no-seat (LoadWord word n) tt h spent _
-  step-mine (SetSlot i t m) h asks spent = no-seat (SetSlot i t m) tt h spent _
-  step-mine (ClearSlot i t m) h asks spent = no-seat (ClearSlot i t m) tt h spent _
-  step-mine (StoreDatabase d) h asks spent = no-seat (StoreDatabase d) tt h spent _
-  step-mine (Count t m) h asks spent = no-seat (Count t m) tt h spent _
-  step-mine (Uncount t m) h asks spent = no-seat (Uncount t m) tt h spent _
-  step-mine (TransferSlot q i t m z) h asks spent = no-seat (TransferSlot q i t m z) tt h spent _
-  step-mine (LockList word) h asks spent = no-seat (LockList word) tt h spent _
-  step-mine (UnlockList word waiters release) h asks spent = no-seat (UnlockList word waiters release) tt h spent _
-  step-mine (JoinList mode) h asks spent = no-seat (JoinList mode) tt h spent _
-  step-mine LeaveList h asks spent = no-seat LeaveList tt h spent _
-  step-mine (TakeOff o) h asks spent = no-seat (TakeOff o) tt h spent _
-  step-mine (Tell o) h asks spent = no-seat (Tell o) tt h spent _
-  step-mine (LoadSleep n) h asks spent = no-seat (LoadSleep n) tt h spent _
-  step-mine (SetReleaseOk word n) h asks spent = no-seat (SetReleaseOk word n) tt h spent _
-  step-mine (SetHasWaiters word n) h asks spent = no-seat (SetHasWaiters word n) tt h spent _
+      let mine = joining-mine joiner h asks in same-nothing v v b (next (JoinSeat joiner)) s mine (nothing b s) (λ l has. has) (mine.no_list) (mine.tells_nobody)
+  step-mine (TakeExclusive word) h asks spent = no-seat (TakeExclusive word) tt h spent (next (TakeExclusive word))
+  step-mine (PutExclusive word done) h asks spent = no-seat (PutExclusive word done) tt h spent (next (PutExclusive word done))
+  step-mine (TakeShared word) h asks spent = no-seat (TakeShared word) tt h spent (next (TakeShared word))
+  step-mine (PutShared word) h asks spent = no-seat (PutShared word) tt h spent (next (PutShared word))
+  step-mine (AskCancel o) h asks spent = no-seat (AskCancel o) tt h spent (next (AskCancel o))
+  step-mine (LoadWait n) h asks spent = no-seat (LoadWait n) tt h spent (next (LoadWait n))
+  step-mine (SetWaiting t m) h asks spent = no-seat (SetWaiting t m) tt h spent (next (SetWaiting t m))
+  step-mine (MarkGranted o done) h asks spent = no-seat (MarkGranted o done) tt h spent (next (MarkGranted o done))
+  step-mine (ClearWait leaving) h asks spent = no-seat (ClearWait leaving) tt h spent (next (ClearWait leaving))
+  step-mine (PutPassing o t m) h asks spent = no-seat (PutPassing o t m) tt h spent (next (PutPassing o t m))
+  step-mine (LoadStrong i n) h asks spent = no-seat (LoadStrong i n) tt h spent (next (LoadStrong i n))
+  step-mine (LoadWord word n) h asks spent = no-seat (LoadWord word n) tt h spent (next (LoadWord word n))
+  step-mine (SetSlot i t m) h asks spent = no-seat (SetSlot i t m) tt h spent (next (SetSlot i t m))
+  step-mine (ClearSlot i t m) h asks spent = no-seat (ClearSlot i t m) tt h spent (next (ClearSlot i t m))
+  step-mine (StoreDatabase d) h asks spent = no-seat (StoreDatabase d) tt h spent (next (StoreDatabase d))
+  step-mine (Count t m) h asks spent = no-seat (Count t m) tt h spent (next (Count t m))
+  step-mine (Uncount t m) h asks spent = no-seat (Uncount t m) tt h spent (next (Uncount t m))
+  step-mine (TransferSlot q i t m z) h asks spent = no-seat (TransferSlot q i t m z) tt h spent (next (TransferSlot q i t m z))
+  step-mine (LockList word) h asks spent = no-seat (LockList word) tt h spent (next (LockList word))
+  step-mine (UnlockList word waiters release) h asks spent = no-seat (UnlockList word waiters release) tt h spent (next (UnlockList word waiters release))
+  step-mine (JoinList mode) h asks spent = no-seat (JoinList mode) tt h spent (next (JoinList mode))
+  step-mine LeaveList h asks spent = no-seat LeaveList tt h spent (next LeaveList)
+  step-mine (TakeOff o) h asks spent = no-seat (TakeOff o) tt h spent (next (TakeOff o))
+  step-mine (Tell o) h asks spent = no-seat (Tell o) tt h spent (next (Tell o))
+  step-mine (LoadSleep n) h asks spent = no-seat (LoadSleep n) tt h spent (next (LoadSleep n))
+  step-mine (SetReleaseOk word n) h asks spent = no-seat (SetReleaseOk word n) tt h spent (next (SetReleaseOk word n))
+  step-mine (SetHasWaiters word n) h asks spent = no-seat (SetHasWaiters word n) tt h spent (next (SetHasWaiters word n))
 
 event-live :
     (w v : World) (b : Beside) (event : Event) → SafeWorld w → OnlyLiveOwe w b → Happens w event v → Asks w b.duties b.waits b.sleeps event.session event.step
@@ -265,3 +268,9 @@ turn-live w v b (called_sleeper s o) safe only h =
     subst (λ a. OnlyLiveOwe a (beside_after w b (called_sleeper s o))) (sym h)
     (λ k spent. let was = only k spent in
     has-nothing w b (beside_after w b (called_sleeper s o)) k was was.no_look was.no_try refl was.calls_no_waiter (λ j. call-none b.sleeps.owed s o k j (was.calls_no_sleeper j)))
+turn-live w v b (parks_waiting s n) safe only h =
+    subst (λ a. OnlyLiveOwe a (beside_after w b (parks_waiting s n))) (sym h.2)
+    (λ k spent. let was = only k spent in has-nothing w b (beside_after w b (parks_waiting s n)) k was was.no_look was.no_try refl was.calls_no_waiter was.calls_no_sleeper)
+turn-live w v b (parks_asleep s n) safe only h =
+    subst (λ a. OnlyLiveOwe a (beside_after w b (parks_asleep s n))) (sym h.2)
+    (λ k spent. let was = only k spent in has-nothing w b (beside_after w b (parks_asleep s n)) k was was.no_look was.no_try refl was.calls_no_waiter was.calls_no_sleeper)

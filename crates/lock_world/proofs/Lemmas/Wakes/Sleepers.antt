@@ -2,7 +2,7 @@ use Rattle.std.proofs.Common.{zero, suc, ◌≡◌, ◌≢◌, ℕ, ◌+◌, ◌
 use Rattle.std.proofs.lemmas.Bool.{cases_eq, both_ways}
 use Rattle.lw_word.specs.WaitList.{stands_in}
 use Rattle.lock_world.specs.WaitLists.{SleepersAreInOrder}
-use Rattle.lock_world.specs.Wakes.Waking.{Waking, HasLock, Owes, has_it, must_look, has_its_list, must_try, must_set_ok, NobodyIsForgotten, IsAsleep, IsOwedOrTold, rank, OrderIsKept, IsInvolved, owes_one, tells_one, NotAllSleep}
+use Rattle.lock_world.specs.Wakes.Waking.{Waking, HasLock, Owes, has_it, must_look, has_its_list, must_try, must_set_ok, NobodyIsForgotten, IsAsleep, IsOwedOrTold, rank, OrderIsKept, IsInvolved, owes_one, tells_one}
 use Rattle.lock_world.proofs.Lemmas.Wakes.Readings.{not-none, one-lock}
 use Rattle.lock_world.proofs.Lemmas.Wakes.Standing.{no-list}
 
@@ -58,10 +58,7 @@ module _ (w : Waking) (safe : NobodyIsForgotten w) (order : SleepersAreInOrder w
         let its : a.0 ≡ lock = one-lock (w.owes_release_ok j) (a.0) lock (safe.in_list (a.0) j mine) ok.owes in
         both_ways (stands_in j (w.sleepers.list lock)) ok.off_list (ap (λ x. stands_in j (w.sleepers.list x)) (sym its) ∙ mine)
 
-  none-sleeps : (s lock : ℕ) → IsAsleep w s lock → ⊥
+  pub none-sleeps : (s lock : ℕ) → IsAsleep w s lock → ⊥
   none-sleeps s lock asleep = climb 17 s lock (enough (rank lock)) (in_its_list s lock asleep) where
     enough : (n : ℕ) → 17 ≤ n + 17
     enough n = omega arith
-
-pub not-all : (w : Waking) → NobodyIsForgotten w → SleepersAreInOrder w.sleepers → OrderIsKept w → NotAllSleep w
-not-all w safe order kept all s lock asleep = none-sleeps w safe order kept all s lock asleep

@@ -2,12 +2,13 @@ use Rattle.std.proofs.Common.{◌≡◌, ℕ, ◌<◌, ◌≤◌, ◌^◌, List,
 use Rattle.std.specs.Prelude.{slice_get, slice_index}
 use mathlib.Core.Option.{some, none}
 use lib.ListN.{get_elem?}
-use Rattle.atomic_table.specs.Table.{State, Step, step, keeps, Allows}
+use Rattle.atomic_table.specs.Table.{State, Step, step, keeps}
 use Rattle.lock_table.specs.declared.request.Request.{Request}
 use Rattle.lock_table.specs.Content.{Content}
 use Rattle.lock_world.specs.declared.events.Word.{Word}
 use Rattle.lock_world.specs.declared.events.Word.TheVariants.{Partition, Fast, Database, Slot, Wait, Strong, Sleep}
 use Rattle.lock_world.specs.World.{opening, word_in}
+use Rattle.shared_rule.specs.Allowed.{AllowsStep}
 use Rattle.shared_rule.specs.declared.history.History.{History}
 use Rattle.shared_rule.specs.declared.history.Mark.{Mark}
 use Rattle.shared_rule.specs.declared.rule.TableSizes.{TableSizes}
@@ -56,10 +57,10 @@ module _ {T : Type 0} (content : T → Content) (begun : T → Option Request) (
   pub looks_over_at :
       (word : Word) → IsInTable sizes word → (i : ℕ) → i ≡ index_of_word sizes.sessions word → (mark its : ℕ → Mark T) → mark ≡ its → NamesNoOther word mark
       → IsAlwaysLawful content sizes x word (λ _. Unit {0}) (λ n. n) its
-      → Allows (Ruled content begun sizes) slots id me i (λ n. n) (LookedOver content mark (step slots i 0 0 none) me)
+      → AllowsStep content begun sizes slots id me i (λ n. n) (LookedOver content mark (step slots i 0 0 none) me)
   looks_over_at word exists i at mark its same names lawful =
-      subst (λ k. Allows (Ruled content begun sizes) slots id me k (λ n. n) (LookedOver content mark (step slots k 0 0 none) me)) (sym at) here where
-        here : Allows (Ruled content begun sizes) slots id me (index_of_word sizes.sessions word) (λ n. n) (LookedOver content mark (step slots (index_of_word sizes.sessions word) 0 0 none) me)
+      subst (λ k. AllowsStep content begun sizes slots id me k (λ n. n) (LookedOver content mark (step slots k 0 0 none) me)) (sym at) here where
+        here : AllowsStep content begun sizes slots id me (index_of_word sizes.sessions word) (λ n. n) (LookedOver content mark (step slots (index_of_word sizes.sessions word) 0 0 none) me)
         here s r many at_view below =
             let n : ℕ = slice_index s.words (index_of_word sizes.sessions word) in (
               noting me.0 (mark n),
@@ -77,7 +78,7 @@ module _ {T : Type 0} (content : T → Content) (begun : T → Option Request) (
             )
 
   -- A load that changes nothing, and tells what is known of all.
-  pub tells_all_at : (groups : ℕ) → groups ≡ sizes.groups → (i : ℕ) (step : Step (Kept T)) → Allows (Ruled content begun sizes) slots id me i (λ n. n) (ToldAll content groups step me)
+  pub tells_all_at : (groups : ℕ) → groups ≡ sizes.groups → (i : ℕ) (step : Step (Kept T)) → AllowsStep content begun sizes slots id me i (λ n. n) (ToldAll content groups step me)
   tells_all_at groups same i step s r many at below = (
     me.0,
     keeps,

@@ -5,7 +5,7 @@ use Rattle.std.specs.Global.{Box}
 use Rattle.std.proofs.lemmas.Bool.{cases_eq}
 use mathlib.Core.Option.{some, none}
 use mathlib.Core.Option as maybe
-use Rattle.atomic_table.specs.Table.{Step, step, takes, gives, keeps, Allows, rest, put_back}
+use Rattle.atomic_table.specs.Table.{Step, step, takes, gives, keeps, rest, put_back}
 use Rattle.lw_word.specs.LightweightWord.{list_locked_word, list_unlocked_word, kept_bits}
 use Rattle.lw_word.specs.WaitList.{Waiting, stands_in}
 use Rattle.lock_table.specs.declared.request.Request.{Request}
@@ -15,6 +15,7 @@ use Rattle.lock_world.specs.World.{World, word_in}
 use Rattle.lock_world.specs.Account.{Account, ListInHand, account}
 use Rattle.lock_world.specs.AccountLaw.{MayLockListBy}
 use Rattle.lock_world.proofs.Lemmas.Accounts.Lists.{has_list-lawful}
+use Rattle.shared_rule.specs.Allowed.{RuledNext, AllowsStep}
 use Rattle.shared_rule.specs.declared.history.Mark.{Mark}
 use Rattle.lock_world.specs.Wakes.Waking.{NoneOr}
 use Rattle.shared_rule.specs.Todos.{todo_told_by}
@@ -31,7 +32,7 @@ use Rattle.shared_rule.specs.Waiters.{WaitersExist}
 use Rattle.shared_rule.proofs.Lemmas.Waiters.{listed-below}
 use Rattle.shared_rule.specs.Shown.{WordsAreShown, set_word}
 use Rattle.shared_rule.specs.History.{told, noting, first_account, first_number}
-use Rattle.shared_rule.specs.Ruled.{ContentsAreHome, ListsAreHome, Ruled}
+use Rattle.shared_rule.specs.Ruled.{ContentsAreHome, ListsAreHome}
 use Rattle.shared_rule.specs.Plays.{Side, WentHome, TookList, LockedListOr, SawHeldOr}
 use Rattle.shared_rule.proofs.Lemmas.Shown.{words-set}
 use Rattle.shared_rule.proofs.Lemmas.Frame.{sees_list_locked, sees_held, ruled-steps, ruled-noted}
@@ -47,7 +48,7 @@ module _ {T : Type 0} (content : T → Content) (begun : T → Option Request) (
   -- The fetch-or takes the list in hand where it finds its bit not set.
   locks_list : MayLockListBy (told content x.number x.marks) → NoneOr (todo_told_by x.number x.marks).due (lock_number lock)
       → TellsNobodyBy (told content x.number x.marks)
-      → Allows (Ruled content begun sizes) slots id me at_word (λ n. bit_or n (2 ^ 28)) (LockedListOr content sizes.sessions (step slots at_word (2 ^ 28) 0 none) me)
+      → AllowsStep content begun sizes slots id me at_word (λ n. bit_or n (2 ^ 28)) (LockedListOr content sizes.sessions (step slots at_word (2 ^ 28) 0 none) me)
   locks_list may fits nobody s r many at_view below = elim (cases_eq (n / 2 ^ 28 % 2) 0) [
     | inl unlocked ↦
         let w : World = r.world in
@@ -93,7 +94,7 @@ module _ {T : Type 0} (content : T → Content) (begun : T → Option Request) (
       noting me.0 (mark.SawListLocked (lock_number lock)),
       keeps,
       tt,
-      subst (λ k. Ruled content begun sizes (record { words = slice_set s.words at_word k; homes = s.homes; views = slice_set s.views id (noting me.0 (mark.SawListLocked (lock_number lock))) })) (sym (or-locked n locked))
+      subst (λ k. RuledNext content begun sizes r.events me.0 (noting me.0 (mark.SawListLocked (lock_number lock))) (record { words = slice_set s.words at_word k; homes = s.homes; views = slice_set s.views id (noting me.0 (mark.SawListLocked (lock_number lock))) })) (sym (or-locked n locked))
           (looks-only content begun sizes id at_word me.0 x others is s r at_view (mark.SawListLocked (lock_number lock))
           (sees_list_locked (lock_number lock) refl (shown-locked r.world lock n (sym (r.shown.of_words.word (word_of_lock lock) (lock-word_there sizes lock there))) locked) fits)),
       (
@@ -114,7 +115,7 @@ module _ {T : Type 0} (content : T → Content) (begun : T → Option Request) (
       → me.1 ≡ (list_shelf_of (lock_number lock), kept.List list) ∷ rest me.1 → (has_waiters ≡ false → list.value.waiters ≡ [])
       → (release_ok ≡ false → (other : ℕ) × ((told content x.number x.marks).lists.off other ≡ true))
       → IsLeftWellBy (told content x.number x.marks) (todo_told_by x.number x.marks) lock list.value.waiters → (step : Step (Kept T))
-      → Allows (Ruled content begun sizes) slots id me at_word (λ n. bit_and n (kept_bits has_waiters release_ok)) (WentHome (λ _. mark.UnlockedList) step me)
+      → AllowsStep content begun sizes slots id me at_word (λ n. bit_and n (kept_bits has_waiters release_ok)) (WentHome (λ _. mark.UnlockedList) step me)
   unlocks_list has_waiters release_ok list room sized known carried waiters_stay release_stays well step s r many at_view below =
       let w : World = r.world in
       let n : ℕ = slice_index s.words at_word in
@@ -149,10 +150,10 @@ module _ {T : Type 0} (content : T → Content) (begun : T → Option Request) (
   -- What is lawful of a lightweight word is so of the word at its index.
   pub locks_list_at : MayLockListBy (told content x.number x.marks) → NoneOr (todo_told_by x.number x.marks).due (lock_number lock)
       → TellsNobodyBy (told content x.number x.marks) → (known : ℕ) → known ≡ sizes.sessions → (i : ℕ) → i ≡ at_word
-      → Allows (Ruled content begun sizes) slots id me i (λ n. bit_or n (2 ^ 28)) (LockedListOr content known (step slots i (2 ^ 28) 0 none) me)
+      → AllowsStep content begun sizes slots id me i (λ n. bit_or n (2 ^ 28)) (LockedListOr content known (step slots i (2 ^ 28) 0 none) me)
   locks_list_at may fits nobody known same i at =
-      subst (λ j. Allows (Ruled content begun sizes) slots id me i (λ n. bit_or n (2 ^ 28)) (LockedListOr content j (step slots i (2 ^ 28) 0 none) me)) (sym same)
-      (subst (λ k. Allows (Ruled content begun sizes) slots id me k (λ n. bit_or n (2 ^ 28)) (LockedListOr content sizes.sessions (step slots k (2 ^ 28) 0 none) me)) (sym at) (locks_list may fits nobody))
+      subst (λ j. AllowsStep content begun sizes slots id me i (λ n. bit_or n (2 ^ 28)) (LockedListOr content j (step slots i (2 ^ 28) 0 none) me)) (sym same)
+      (subst (λ k. AllowsStep content begun sizes slots id me k (λ n. bit_or n (2 ^ 28)) (LockedListOr content sizes.sessions (step slots k (2 ^ 28) 0 none) me)) (sym at) (locks_list may fits nobody))
 
   pub unlocks_list_at :
       (has_waiters release_ok : Bool) (list : Box Waiting) → list.value.room ≡ sizes.sessions → slots ≡ shelves_of sizes.sessions
@@ -161,15 +162,15 @@ module _ {T : Type 0} (content : T → Content) (begun : T → Option Request) (
       → (release_ok ≡ false → (other : ℕ) × ((told content x.number x.marks).lists.off other ≡ true))
       → IsLeftWellBy (told content x.number x.marks) (todo_told_by x.number x.marks) lock list.value.waiters → (i : ℕ) → i ≡ at_word → (mask : ℕ) → mask ≡ kept_bits has_waiters release_ok
       → (mark' : ℕ → Mark T) → mark' ≡ (λ _. mark.UnlockedList)
-      → Allows (Ruled content begun sizes) slots id me i (λ n. bit_and n mask) (WentHome mark' (step slots i mask 0 none) me)
+      → AllowsStep content begun sizes slots id me i (λ n. bit_and n mask) (WentHome mark' (step slots i mask 0 none) me)
   unlocks_list_at has_waiters release_ok list room sized known carried waiters_stay release_stays well i at mask is_mask mark' marked =
-      subst (λ k. Allows (Ruled content begun sizes) slots id me i (λ n. bit_and n k) (WentHome mark' (step slots i k 0 none) me)) (sym is_mask)
-      (subst (λ k. Allows (Ruled content begun sizes) slots id me k (λ n. bit_and n (kept_bits has_waiters release_ok)) (WentHome mark' (step slots k (kept_bits has_waiters release_ok) 0 none) me)) (sym at)
-      (subst (λ (m : ℕ → Mark T). Allows (Ruled content begun sizes) slots id me at_word (λ n. bit_and n (kept_bits has_waiters release_ok)) (WentHome m (step slots at_word (kept_bits has_waiters release_ok) 0 none) me)) (sym marked)
+      subst (λ k. AllowsStep content begun sizes slots id me i (λ n. bit_and n k) (WentHome mark' (step slots i k 0 none) me)) (sym is_mask)
+      (subst (λ k. AllowsStep content begun sizes slots id me k (λ n. bit_and n (kept_bits has_waiters release_ok)) (WentHome mark' (step slots k (kept_bits has_waiters release_ok) 0 none) me)) (sym at)
+      (subst (λ (m : ℕ → Mark T). AllowsStep content begun sizes slots id me at_word (λ n. bit_and n (kept_bits has_waiters release_ok)) (WentHome m (step slots at_word (kept_bits has_waiters release_ok) 0 none) me)) (sym marked)
       (unlocks_list has_waiters release_ok list room sized known carried waiters_stay release_stays well (step slots at_word (kept_bits has_waiters release_ok) 0 none))))
 
   -- A load sees whether the lock is held.
-  sees_it_held : NoneOr (todo_told_by x.number x.marks).tries (lock_number lock) → (its : Step (Kept T)) → its.word ≡ at_word → Allows (Ruled content begun sizes) slots id me at_word (λ n. n) (SawHeldOr its me)
+  sees_it_held : NoneOr (todo_told_by x.number x.marks).tries (lock_number lock) → (its : Step (Kept T)) → its.word ≡ at_word → AllowsStep content begun sizes slots id me at_word (λ n. n) (SawHeldOr its me)
   sees_it_held fits its word s r many at_view below = elim (cases_eq (n % 2 ^ 25) 0) [
     | inl free ↦ (
       me.0,
@@ -179,22 +180,22 @@ module _ {T : Type 0} (content : T → Content) (begun : T → Option Request) (
       ((λ _. refl), λ held. absurd (held free)),
     )
     | inr held ↦ (
-      noting me.0 (mark.SawHeld (lock_number lock)),
+      noting me.0 (mark.SawHeld (lock_number lock) n),
       keeps,
       tt,
-      looks-only content begun sizes id at_word me.0 x others is s r at_view (mark.SawHeld (lock_number lock))
-          (sees_held (lock_number lock) refl (shown-held r.world lock n (sym (r.shown.of_words.word (word_of_lock lock) (lock-word_there sizes lock there))) held) fits),
+      looks-only content begun sizes id at_word me.0 x others is s r at_view (mark.SawHeld (lock_number lock) n)
+          (sees_held (lock_number lock) n refl (shown-held r.world lock n (sym (r.shown.of_words.word (word_of_lock lock) (lock-word_there sizes lock there))) held) fits),
       (
         (λ free. absurd (held free)),
         (λ _ sessions other also same.
             let one : lock ≡ other = same-lock sizes.sessions sessions lock other there also (sym word ∙ same) in
-            λ i. (noting me.0 (mark.SawHeld (lock_number (one i))), me.1)),
+            λ i. (noting me.0 (mark.SawHeld (lock_number (one i)) n), me.1)),
       ),
     )
   ] where
     n : ℕ
     n = slice_index s.words at_word
 
-  pub sees_held_at : NoneOr (todo_told_by x.number x.marks).tries (lock_number lock) → (i : ℕ) → i ≡ at_word → Allows (Ruled content begun sizes) slots id me i (λ n. n) (SawHeldOr (step slots i 0 0 none) me)
+  pub sees_held_at : NoneOr (todo_told_by x.number x.marks).tries (lock_number lock) → (i : ℕ) → i ≡ at_word → AllowsStep content begun sizes slots id me i (λ n. n) (SawHeldOr (step slots i 0 0 none) me)
   sees_held_at fits i at =
-      subst (λ k. Allows (Ruled content begun sizes) slots id me k (λ n. n) (SawHeldOr (step slots k 0 0 none) me)) (sym at) (sees_it_held fits (step slots at_word 0 0 none) refl)
+      subst (λ k. AllowsStep content begun sizes slots id me k (λ n. n) (SawHeldOr (step slots k 0 0 none) me)) (sym at) (sees_it_held fits (step slots at_word 0 0 none) refl)

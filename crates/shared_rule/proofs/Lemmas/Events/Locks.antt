@@ -4,7 +4,7 @@ use Rattle.std.specs.Prelude.{slice_set, slice_index, slice_index_or}
 use mathlib.Core.Option.{some, none}
 use lib.ListN.{get_elem?}
 use prog.Atomic.{either}
-use Rattle.atomic_table.specs.Table.{State, step, Act, keeps, Allows, Valid, stepped, carried_after}
+use Rattle.atomic_table.specs.Table.{State, step, Act, keeps, Valid, stepped, carried_after}
 use Rattle.atomic_table.proofs.Lists.{exchanged}
 use Rattle.modes_core.specs.declared.modes.Mode.{Mode}
 use Rattle.modes_core.specs.declared.tags.Tag.{Tag}
@@ -33,6 +33,7 @@ use Rattle.lock_world.specs.AccountFacts.{KnowsSlots}
 use Rattle.lock_world.proofs.Lemmas.Accounts.Facts.{slots-told}
 use Rattle.lock_world.proofs.Lemmas.Accounts.Slots.{slots_now, account-taking_fast, account-putting_fast, account-passing}
 use Rattle.lock_world.proofs.Lemmas.Accounts.Slots.{account-sharing_fast, account-unsharing_fast}
+use Rattle.shared_rule.specs.Allowed.{RuledNext, AllowsStep}
 use Rattle.shared_rule.specs.declared.history.Mark.{Mark}
 use Rattle.shared_rule.specs.Todos.{todo_told_by, flagged_told_by}
 use Rattle.lock_world.specs.WaitLists.{fast_lock}
@@ -160,26 +161,26 @@ module _ {T : Type 0} (content : T → Content) (begun : T → Option Request) (
       (mark : ℕ → ℕ → List ℕ → Mark T) (lost : ℕ → View T → View T) (old new : ℕ)
       → ((w : World) → Stepper sizes w x.number (told content x.number x.marks) → w.words.fast owner ≡ old
       → Sees content sizes.groups x owner w mark new)
-      → ((s : State (Kept T) (View T)) → Ruled content begun sizes s → get_elem? s.views id ≡ some me.0
+      → ((s : State (Kept T) (View T)) (r : Ruled content begun sizes s) → get_elem? s.views id ≡ some me.0
       → slice_index s.words at_word < 2 ^ 64
-      → Ruled content begun sizes (record {
+      → RuledNext content begun sizes r.events me.0 (lost (slice_index s.words at_word) me.0) (record {
         words = slice_set s.words at_word (slice_index s.words at_word);
         homes =
             s.homes;
         views = slice_set s.views id (lost (slice_index s.words at_word) me.0);
       }))
       → (i : ℕ) → i ≡ at_word
-      → Allows (Ruled content begun sizes) slots id me i (λ n. either (n == old) new n)
+      → AllowsStep content begun sizes slots id me i (λ n. either (n == old) new n)
       (SeesSlotsOr content sizes.groups mark lost (step slots i old new none) me)
   sees_slots_or mark lost old new makes stays i at =
-      subst (λ k. Allows (Ruled content begun sizes) slots id me k (λ n. either (n == old) new n)
+      subst (λ k. AllowsStep content begun sizes slots id me k (λ n. either (n == old) new n)
       (SeesSlotsOr content sizes.groups mark lost (step slots k old new none) me)) (sym at) here where
-        here : Allows (Ruled content begun sizes) slots id me at_word (λ n. either (n == old) new n)
+        here : AllowsStep content begun sizes slots id me at_word (λ n. either (n == old) new n)
             (SeesSlotsOr content sizes.groups mark lost (step slots at_word old new none) me)
         here s r many at_view below =
             exchanged (slice_index s.words at_word) old new (λ m. (view : View T) × (act : Act (Kept T))
             × Valid s.homes me.1 act
-            × Ruled content begun sizes (stepped s at_word m id me.1 view act)
+            × RuledNext content begun sizes r.events me.0 view (stepped s at_word m id me.1 view act)
             × SeesSlotsOr content sizes.groups mark lost (step slots at_word old new none) me (slice_index s.words at_word)
             (view, carried_after me.1 act))
             (λ hit.
@@ -241,10 +242,10 @@ module _ {T : Type 0} (content : T → Content) (begun : T → Option Request) (
   -- of a session that there can be
   pub takes_fast_at : (groups old new : ℕ) → groups ≡ sizes.groups → IsHeldByNobody old → new ≡ taken_word old
       → MayAttempt (told content x.number x.marks) (todo_told_by x.number x.marks) (fast_lock owner) → (i : ℕ) → i ≡ at_word
-      → Allows (Ruled content begun sizes) slots id me i (λ n. either (n == old) new n)
+      → AllowsStep content begun sizes slots id me i (λ n. either (n == old) new n)
       (TookSlotsOr content groups unnoted (step slots i old new none) me)
   takes_fast_at groups old new same free is_new tries i at =
-      subst (λ k. Allows (Ruled content begun sizes) slots id me i (λ n. either (n == old) new n)
+      subst (λ k. AllowsStep content begun sizes slots id me i (λ n. either (n == old) new n)
       (TookSlotsOr content k unnoted (step slots i old new none) me)) (sym same)
       (sees_slots_or mark.TookFast unnoted old new
       (taking-sees old new (λ w steps. subst (λ n. owner < n) (sym steps.is_limit) inside) free is_new tries)
@@ -254,10 +255,10 @@ module _ {T : Type 0} (content : T → Content) (begun : T → Option Request) (
   pub tries_fast_at : (groups old new : ℕ) → groups ≡ sizes.groups → owner ≡ x.number → IsHeldByNobody old → new ≡ taken_word old
       → MayAttempt (told content x.number x.marks) (todo_told_by x.number x.marks) (fast_lock owner) → (i : ℕ)
       → i ≡ at_word
-      → Allows (Ruled content begun sizes) slots id me i (λ n. either (n == old) new n)
+      → AllowsStep content begun sizes slots id me i (λ n. either (n == old) new n)
       (TookSlotsOr content groups noted_load (step slots i old new none) me)
   tries_fast_at groups old new same own free is_new tries i at =
-      subst (λ k. Allows (Ruled content begun sizes) slots id me i (λ n. either (n == old) new n)
+      subst (λ k. AllowsStep content begun sizes slots id me i (λ n. either (n == old) new n)
       (TookSlotsOr content k noted_load (step slots i old new none) me)) (sym same)
       (sees_slots_or mark.TookFast noted_load old new
       (taking-sees old new
@@ -277,10 +278,10 @@ module _ {T : Type 0} (content : T → Content) (begun : T → Option Request) (
   pub shares_fast_at :
       (groups old new : ℕ) → groups ≡ sizes.groups → IsFreeToShare old → new ≡ shared_word old
       → MayShareFastBy (told content x.number x.marks) owner → MayAttempt (told content x.number x.marks) (todo_told_by x.number x.marks) (fast_lock owner) → (i : ℕ) → i ≡ at_word
-      → Allows (Ruled content begun sizes) slots id me i (λ n. either (n == old) new n)
+      → AllowsStep content begun sizes slots id me i (λ n. either (n == old) new n)
       (SharedSlotsOr content groups unnoted (step slots i old new none) me)
   shares_fast_at groups old new same free is_new may tries i at =
-      subst (λ k. Allows (Ruled content begun sizes) slots id me i (λ n. either (n == old) new n)
+      subst (λ k. AllowsStep content begun sizes slots id me i (λ n. either (n == old) new n)
       (SharedSlotsOr content k unnoted (step slots i old new none) me)) (sym same)
       (sees_slots_or mark.SharedFast unnoted old new
       (λ w steps shown.

@@ -6,7 +6,7 @@ use mathlib.Core.Option.{some, none}
 use mathlib.Core.Option as maybe
 use lib.ListN.{get_elem?}
 use prog.Atomic.{either}
-use Rattle.atomic_table.specs.Table.{State, Step, step, Act, takes, gives, keeps, Allows, Valid, stepped, carried_after, rest}
+use Rattle.atomic_table.specs.Table.{State, Step, step, Act, takes, gives, keeps, Valid, stepped, carried_after, rest}
 use Rattle.atomic_table.proofs.Lists.{set_here, set_else, exchanged}
 use Rattle.lw_word.specs.LightweightWord.{IsHeldByNobody, IsHeldExclusively, taken_word, put_word}
 use Rattle.lw_word.specs.declared.wait_lists.LwWaiter.{LwWaiter}
@@ -26,6 +26,7 @@ use Rattle.lock_world.specs.Account.{Account, InHand, account}
 use Rattle.lock_world.specs.AccountSteps.{account_taking, account_putting}
 use Rattle.lock_world.specs.AccountLaw.{MayPutBy}
 use Rattle.lock_world.specs.Happens.{HappensStep}
+use Rattle.shared_rule.specs.Allowed.{RuledNext, AllowsStep}
 use Rattle.shared_rule.specs.Lawful.{MayPutPart}
 use Rattle.lock_world.specs.AccountFacts.{KnowsContent}
 use Rattle.lock_world.proofs.Lemmas.Words.Holders.{free-not_held}
@@ -157,10 +158,10 @@ module _ {T : Type 0} (content : T → Content) (begun : T → Option Request) (
   -- The exchange takes it where it finds the number of a free word.
   pub takes_part : (old new : ℕ) (step : Step (Kept T)) → step.first ≡ old → step.word ≡ index_of_word sizes.sessions (Partition p) → IsHeldByNobody old → new ≡ taken_word old
       → MayAttempt (told content x.number x.marks) (todo_told_by x.number x.marks) (partition_lock p)
-      → Allows (Ruled content begun sizes) (shelves_of sizes.sessions) id me (index_of_word sizes.sessions (Partition p)) (λ n. either (n == old) new n) (TookPartition content begun sizes.sessions step me)
+      → AllowsStep content begun sizes (shelves_of sizes.sessions) id me (index_of_word sizes.sessions (Partition p)) (λ n. either (n == old) new n) (TookPartition content begun sizes.sessions step me)
   takes_part old new step first word free is_new tries s r many at below =
       exchanged n old new (λ m. (view : View T) × (act : Act (Kept T)) × Valid s.homes me.1 act
-      × Ruled content begun sizes (stepped s (index_of_word sizes.sessions (Partition p)) m id me.1 view act)
+      × RuledNext content begun sizes r.events me.0 view (stepped s (index_of_word sizes.sessions (Partition p)) m id me.1 view act)
       × TookPartition content begun sizes.sessions step me n (view, carried_after me.1 act))
       (λ hit.
       let shown : r.world.words.partition p ≡ old = sym (r.shown.of_words.word (Partition p) (exists, tt)) ∙ hit in
@@ -250,7 +251,7 @@ module _ {T : Type 0} (content : T → Content) (begun : T → Option Request) (
 
   pub puts_part : (step : Step (Kept T)) (its : InHand) (done : Move) (part : T) → MayPutPart sizes.sessions x.number (told content x.number x.marks) p its done (content part)
       → begun part ≡ None → me.1 ≡ (content_shelf_of p, Part part) ∷ rest me.1 → (todo_told_by x.number x.marks).due ≡ None
-      → Allows (Ruled content begun sizes) (shelves_of sizes.sessions) id me (index_of_word sizes.sessions (Partition p)) (λ n. (n + (2 ^ 64 - 2 ^ 24)) % 2 ^ 64) (WentHome (PutPart p done part) step me)
+      → AllowsStep content begun sizes (shelves_of sizes.sessions) id me (index_of_word sizes.sessions (Partition p)) (λ n. (n + (2 ^ 64 - 2 ^ 24)) % 2 ^ 64) (WentHome (PutPart p done part) step me)
   puts_part step its done part may none_begun carried undue s r many at below =
       let steps = ruled-steps content begun sizes s r id me.0 x others at is in
       let own = hand-known (r.world.contents.hand p) (r.world.contents.now p) x.number its (subst (λ (a : Account). a.hand p ≡ Some its) steps.account (may_put-in_hand (told content x.number x.marks) its done (content part) may)) in
@@ -282,18 +283,18 @@ module _ {T : Type 0} (content : T → Content) (begun : T → Option Request) (
 module _ {T : Type 0} (content : T → Content) (begun : T → Option Request) (sizes : TableSizes) (id : ℕ) (me : Side T) (x : History T) (others : List (History T)) (is : me.0.sessions ≡ x ∷ others)
     (p : ℕ) (exists : p < 16) (slots i : ℕ) (many : slots ≡ shelves_of sizes.sessions) (at : i ≡ index_of_word sizes.sessions (Partition p)) where
   pub takes_part_at : (known old new : ℕ) → known ≡ sizes.sessions → IsHeldByNobody old → new ≡ taken_word old → MayAttempt (told content x.number x.marks) (todo_told_by x.number x.marks) (partition_lock p)
-      → Allows (Ruled content begun sizes) slots id me i (λ n. either (n == old) new n) (TookPartition content begun known (step slots i old new none) me)
+      → AllowsStep content begun sizes slots id me i (λ n. either (n == old) new n) (TookPartition content begun known (step slots i old new none) me)
   takes_part_at known old new same free is_new tries =
-      subst (λ j. Allows (Ruled content begun sizes) slots id me i (λ n. either (n == old) new n) (TookPartition content begun j (step slots i old new none) me)) (sym same)
-      (subst (λ n. Allows (Ruled content begun sizes) n id me i (λ n. either (n == old) new n) (TookPartition content begun sizes.sessions (step n i old new none) me)) (sym many)
-      (subst (λ k. Allows (Ruled content begun sizes) (shelves_of sizes.sessions) id me k (λ n. either (n == old) new n) (TookPartition content begun sizes.sessions (step (shelves_of sizes.sessions) k old new none) me)) (sym at)
+      subst (λ j. AllowsStep content begun sizes slots id me i (λ n. either (n == old) new n) (TookPartition content begun j (step slots i old new none) me)) (sym same)
+      (subst (λ n. AllowsStep content begun sizes n id me i (λ n. either (n == old) new n) (TookPartition content begun sizes.sessions (step n i old new none) me)) (sym many)
+      (subst (λ k. AllowsStep content begun sizes (shelves_of sizes.sessions) id me k (λ n. either (n == old) new n) (TookPartition content begun sizes.sessions (step (shelves_of sizes.sessions) k old new none) me)) (sym at)
       (takes_part content begun sizes id me x others is p exists old new (step (shelves_of sizes.sessions) (index_of_word sizes.sessions (Partition p)) old new none) refl refl free is_new tries)))
 
   pub puts_part_at : (its : InHand) (done : Move) (part : T) → MayPutPart sizes.sessions x.number (told content x.number x.marks) p its done (content part)
       → begun part ≡ None → me.1 ≡ (content_shelf_of p, Part part) ∷ rest me.1 → (todo_told_by x.number x.marks).due ≡ None → (mark : ℕ → Mark T) → mark ≡ PutPart p done part
-      → Allows (Ruled content begun sizes) slots id me i (λ n. (n + (2 ^ 64 - 16777216)) % 2 ^ 64) (WentHome mark (step slots i 16777216 0 none) me)
+      → AllowsStep content begun sizes slots id me i (λ n. (n + (2 ^ 64 - 16777216)) % 2 ^ 64) (WentHome mark (step slots i 16777216 0 none) me)
   puts_part_at its done part may none_begun carried undue mark marked =
-      subst (λ n. Allows (Ruled content begun sizes) n id me i (λ n. (n + (2 ^ 64 - 16777216)) % 2 ^ 64) (WentHome mark (step n i 16777216 0 none) me)) (sym many)
-      (subst (λ k. Allows (Ruled content begun sizes) (shelves_of sizes.sessions) id me k (λ n. (n + (2 ^ 64 - 16777216)) % 2 ^ 64) (WentHome mark (step (shelves_of sizes.sessions) k 16777216 0 none) me)) (sym at)
-      (subst (λ (m : ℕ → Mark T). Allows (Ruled content begun sizes) (shelves_of sizes.sessions) id me (index_of_word sizes.sessions (Partition p)) (λ n. (n + (2 ^ 64 - 16777216)) % 2 ^ 64) (WentHome m (step (shelves_of sizes.sessions) (index_of_word sizes.sessions (Partition p)) 16777216 0 none) me)) (sym marked)
+      subst (λ n. AllowsStep content begun sizes n id me i (λ n. (n + (2 ^ 64 - 16777216)) % 2 ^ 64) (WentHome mark (step n i 16777216 0 none) me)) (sym many)
+      (subst (λ k. AllowsStep content begun sizes (shelves_of sizes.sessions) id me k (λ n. (n + (2 ^ 64 - 16777216)) % 2 ^ 64) (WentHome mark (step (shelves_of sizes.sessions) k 16777216 0 none) me)) (sym at)
+      (subst (λ (m : ℕ → Mark T). AllowsStep content begun sizes (shelves_of sizes.sessions) id me (index_of_word sizes.sessions (Partition p)) (λ n. (n + (2 ^ 64 - 16777216)) % 2 ^ 64) (WentHome m (step (shelves_of sizes.sessions) (index_of_word sizes.sessions (Partition p)) 16777216 0 none) me)) (sym marked)
       (puts_part content begun sizes id me x others is p exists (step (shelves_of sizes.sessions) (index_of_word sizes.sessions (Partition p)) 16777216 0 none) its done part may none_begun carried undue)))

@@ -2,7 +2,7 @@ use Rattle.std.proofs.Common.{◌≡◌, ◌≢◌, ℕ, ◌+◌, ◌<◌, ◌�
 use Rattle.std.specs.Prelude.{if◌then◌else◌, ◌==◌, slice_get, slice_set}
 use mathlib.Core.Option.{some}
 use lib.ListN.{get_elem?}
-use Rattle.atomic_table.specs.Table.{State, Step, keeps, Allows, Splits, Joins}
+use Rattle.atomic_table.specs.Table.{State, Step, keeps}
 use Rattle.atomic_table.proofs.Lists.{at_set, set_else}
 use Rattle.lw_word.specs.declared.wait_lists.LwWaiter.{LwWaiter}
 use Rattle.lock_table.specs.Put.{set_at}
@@ -17,6 +17,7 @@ use Rattle.lock_world.specs.Account.{Account, account, own_hand, list_in_hand}
 use Rattle.lock_world.specs.Happens.Seats.{MayBeIssued, after_issuing, MayBeKeptApart, after_keeping_apart, after_going_on, MayClose, after_closing}
 use Rattle.lock_world.proofs.Lemmas.SafeWorld.Seats.{issuing-safe_world, going_on-safe_world, keeping_apart-safe_world, closing-safe_world}
 use Rattle.lock_world.proofs.Lemmas.FromSafeWorld.{no_conflict-own_world}
+use Rattle.shared_rule.specs.Allowed.{RuledSeats, SplitsSeat, JoinsSeat, AllowsStep}
 use Rattle.shared_rule.specs.declared.history.Mark.{Mark}
 use Rattle.shared_rule.specs.declared.history.History.{History}
 use Rattle.shared_rule.specs.declared.rule.TableSizes.{TableSizes}
@@ -38,7 +39,7 @@ use Rattle.shared_rule.proofs.Lemmas.Owings.{nothing-left}
 use Rattle.shared_rule.proofs.Lemmas.WakeSeats.{TellsSo, each-tells, new-tells, wakes-seated, wakes-moved}
 use Rattle.shared_rule.specs.Ruled.{StandsAtSeat, HistoryIsShown, ClosedAreCounted, OpenerHasClosed, SeatsAreShown, StandsClosed, StepsAreTold, Ruled}
 use Rattle.shared_rule.proofs.Lemmas.ClosedCounts.{opener-set, counted-opened, counted-closed, counted-told}
-use Rattle.shared_rule.specs.Seats.{MayCloseBy, MayBeKeptApartBy, DoNotConflict, HasNumber, HasNext, HasLast, all_but_last, last_of, ToldClosed, IsForOne, IsForTwo, number_in, number_after, behind_of, opened, newcomer, with_closed, met, parted, handed_back, ToldApart}
+use Rattle.shared_rule.specs.Seats.{MayCloseBy, MayBeKeptApartBy, DoNotConflict, HaveTwoNumbers, HasNumber, HasNext, HasLast, all_but_last, last_of, ToldClosed, IsForOne, IsForTwo, number_in, number_after, behind_of, opened, newcomer, with_closed, met, parted, handed_back, ToldApart}
 use Rattle.shared_rule.proofs.Lemmas.Standing.{there-snoc}
 use Rattle.shared_rule.proofs.Lemmas.Views.{ruled-numbered, ruled-closed, seats-closed, history-alone, keeps-nobody}
 use Rattle.shared_rule.proofs.Lemmas.OpenedViews.{with_numbers, seats-opened}
@@ -136,9 +137,9 @@ module _ {T : Type 0} (content : T → Content) (begun : T → Option Request) (
       ]
 
   -- A session opens.
-  pub opens : (id : ℕ) (view : View T) → HasNumber view sizes.sessions → Splits (Ruled content begun sizes) id view (opened view) (newcomer view)
+  pub opens : (id : ℕ) (view : View T) → HasNumber view sizes.sessions → SplitsSeat content begun sizes id view (opened view) (newcomer view)
   opens id view has =
-      subst (λ (o : Option ℕ). Splits (Ruled content begun sizes) id view (record { next = number_after o; closed = view.closed; sessions = view.sessions }) (lone (number_in o) [])) (sym has.next)
+      subst (λ (o : Option ℕ). SplitsSeat content begun sizes id view (record { next = number_after o; closed = view.closed; sessions = view.sessions }) (lone (number_in o) [])) (sym has.next)
       (λ s r at.
       let seats = seats-opened content r.world s.views id view has.number at has.next r.safe.but_slots.table.carriers.numbers r.seats in
       let within : has.number < r.world.numbers.limit = subst (λ (n : ℕ). has.number < n) (sym r.is_limit) has.within in
@@ -147,7 +148,7 @@ module _ {T : Type 0} (content : T → Content) (begun : T → Option Request) (
       (opened-counted s r id view has.number at has.next)
       refl (told-opened s.views r.world.numbers r.events id view has.number at (r.seats.next id view has.number at has.next).1 r.steps)
       (closed-opened s.views r.world.numbers r.events id view has.number at (r.seats.next id view has.number at has.next).1 r.steps)
-      (wakes-seated sizes s.views _ r.events r.world (after_issuing r.world has.number) (record { session = has.number; step = SplitSeat }) (inl (may, refl)) r.wakes tt tt refl refl
+      (wakes-seated sizes s.views _ r.events r.world (after_issuing r.world has.number) (record { session = has.number; step = SplitSeat }) (inl (may, refl)) r.wakes tt tt refl refl refl refl
       (each-opened s.views r.world.numbers r.events id view has.number at may.next r.steps (TellsSo r.wakes.beside r.wakes.turns)
       (new-tells sizes s.views r.events r.world r.wakes has.number (let e : has.number ≡ r.world.numbers.issued = may.next in omega (arith, e))) (each-tells sizes s.views r.events r.world r.wakes))
       (λ h stands. r.wakes.told.closed h (closed-opened s.views r.world.numbers r.events id view has.number at may.next r.steps h stands))
@@ -155,7 +156,7 @@ module _ {T : Type 0} (content : T → Content) (begun : T → Option Request) (
 
   -- A session closes.
   pub closes : (id : ℕ) (opener : View T) (other : ℕ) (view : View T) → HasNext opener → IsForOne view → MayCloseBy (first_account content view.sessions) → first_todo view.sessions ≡ nothing_to_do → first_owed view.sessions ≡ []
-      → Joins (Ruled content begun sizes) id opener other view (with_closed opener view) spent_view
+      → JoinsSeat content begun sizes id opener other view (with_closed opener view) spent_view
   closes id opener other view has one may free wakes_nobody s r at apart there =
       let k = one.number in
       let same : with_closed opener view ≡ with_closed opener (lone k one.marks) = ap (λ (z : View T). with_closed opener z) one.one in
@@ -165,7 +166,7 @@ module _ {T : Type 0} (content : T → Content) (begun : T → Option Request) (
       let its : History T = record { number = k; marks = one.marks } in
       let its_stands : StandsAtSeat s.views its = record { seat = other; place = 0; view = lone k one.marks; there = stands; stands = refl } in
       let may_close = closing-lawful r.world r.safe k (record { live = shown.live; by_itself = shown.kept_by }) (keeps-nobody content r.world s.views other k one.marks stands r.seats) may_by in
-      subst (λ (v : View T). Ruled content begun sizes (record { words = s.words; homes = s.homes; views = slice_set (slice_set s.views id v) other spent_view })) (sym same)
+      subst (λ (v : View T). RuledSeats content begun sizes r.events (record { words = s.words; homes = s.homes; views = slice_set (slice_set s.views id v) other spent_view })) (sym same)
       (ruled-closed content begun sizes s r k one.marks _ may_close (closing-safe_world r.world k r.safe may_close)
       (seats-closed content r.world s.views other k one.marks stands r.seats id opener at apart r.safe.but_slots.table.carriers.numbers)
       (closed-counted s r id opener has.number other k one.marks at has.next apart shown.live)
@@ -175,7 +176,7 @@ module _ {T : Type 0} (content : T → Content) (begun : T → Option Request) (
       (nothing-left r.world r.wakes.beside k may_close.no_word may_close.no_fast_word may_close.no_shared_word may_close.no_shared_fast_word
       (sym free ∙ ap (λ (z : View T). first_todo z.sessions) one.one ∙ r.wakes.todo its its_stands)
       (none-owed_call r.wakes.beside k (owed_told one.marks) (sym (ap (λ (z : View T). first_owed z.sessions) one.one) ∙ wakes_nobody) (r.wakes.owed its its_stands))
-      may_close.no_list may_close.none_untold) tt refl refl
+      may_close.no_list may_close.none_untold) tt refl refl refl refl
       (each-closing s.views r.world.numbers r.events id opener other k one.marks at stands apart r.steps (TellsSo r.wakes.beside r.wakes.turns) (each-tells sizes s.views r.events r.world r.wakes))
       (λ h closed. elim (closed-closing s.views r.world.numbers r.events id opener other k one.marks at stands apart r.steps h closed) [
         | inl old ↦ r.wakes.told.closed h old
@@ -186,7 +187,7 @@ module _ {T : Type 0} (content : T → Content) (begun : T → Option Request) (
   -- A session meets those at a seat, behind them.
   meets : (s : State (Kept T) (View T)) (r : Ruled content begun sizes s) (id : ℕ) (view : View T) (other b : ℕ) (marks : List (Mark T)) (at : get_elem? s.views id ≡ some view)
       (there : get_elem? s.views other ≡ some (lone b marks)) (apart : other ≢ id) → MayBeKeptApartBy (account r.world b) → IsFree (record { number = b; marks = marks } ∷ []) → (sessions : List (History T)) → view.sessions ≡ sessions
-      → Ruled content begun sizes (record { words = s.words; homes = s.homes; views = slice_set (slice_set s.views id (met view (lone b marks))) other spent_view })
+      → RuledSeats content begun sizes r.events (record { words = s.words; homes = s.homes; views = slice_set (slice_set s.views id (met view (lone b marks))) other spent_view })
   meets s r id view other b marks at there apart may free sessions is = by sessions is where
     theirs : History T
     theirs = record { number = b; marks = marks }
@@ -224,22 +225,25 @@ module _ {T : Type 0} (content : T → Content) (begun : T → Option Request) (
     stood : (h : History T) → StandsClosed after h → StandsClosed s.views h
     stood = closed-met s.views r.world.numbers r.events id view other b marks at there apart
 
-    by : (sessions : List (History T)) → view.sessions ≡ sessions → Ruled content begun sizes (record { words = s.words; homes = s.homes; views = after })
+    by : (sessions : List (History T)) → view.sessions ≡ sessions → RuledSeats content begun sizes r.events (record { words = s.words; homes = s.homes; views = after })
     by [] none = record {
-      world = r.world;
-      events = r.events;
-      run = r.run;
-      steps = met_steps;
-      closed_so = λ h stands. r.closed_so h (stood h stands);
-      safe = r.safe;
-      is_limit = r.is_limit;
-      are_groups = r.are_groups;
-      shown = r.shown;
-      seats = seats_as r.world.numbers.kept_by
-          (ap (λ (xs : List (History T)). set_at r.world.numbers.kept_by b (keeper (xs ++ theirs ∷ []) (length xs))) none
-          ∙ set_at-same r.world.numbers.kept_by b None (sym shown.kept_by));
-      closed = closed;
-      wakes = wakes-moved sizes s.views after r.events r.world r.wakes each stood;
+      goes_on = inl refl;
+      rule = record {
+        world = r.world;
+        events = r.events;
+        run = r.run;
+        steps = met_steps;
+        closed_so = λ h stands. r.closed_so h (stood h stands);
+        safe = r.safe;
+        is_limit = r.is_limit;
+        are_groups = r.are_groups;
+        shown = r.shown;
+        seats = seats_as r.world.numbers.kept_by
+            (ap (λ (xs : List (History T)). set_at r.world.numbers.kept_by b (keeper (xs ++ theirs ∷ []) (length xs))) none
+            ∙ set_at-same r.world.numbers.kept_by b None (sym shown.kept_by));
+        closed = closed;
+        wakes = wakes-moved sizes s.views after r.events r.world r.wakes each stood;
+      };
     }
     by (x ∷ others) its =
         let get : slice_get view.sessions 0 ≡ Some x = ap (λ (xs : List (History T)). slice_get xs 0) its in
@@ -261,25 +265,25 @@ module _ {T : Type 0} (content : T → Content) (begun : T → Option Request) (
         (wakes-seated sizes s.views after r.events r.world (after_keeping_apart r.world b x.number) (record { session = b; step = JoinSeat (Some x.number) }) (may_be, refl) r.wakes
         (nothing-left r.world r.wakes.beside b may_be.no_word may_be.no_fast_word may_be.no_shared_word may_be.no_shared_fast_word
         (sym free.idle.free ∙ r.wakes.todo theirs its_stands) (none-owed_call r.wakes.beside b (owed_told marks) free.wakes_nobody (r.wakes.owed theirs its_stands))
-        (no-list (r.world.sessions.has_list b) r.world.words.list (ap (λ (l : ListAccount). l.in_hand) no_lists_there)) (λ o. ap (λ (l : ListAccount). l.off o) no_lists_there)) tt refl refl
+        (no-list (r.world.sessions.has_list b) r.world.words.list (ap (λ (l : ListAccount). l.in_hand) no_lists_there)) (λ o. ap (λ (l : ListAccount). l.off o) no_lists_there)) tt refl refl refl refl
         each (λ h stands. r.wakes.told.closed h (stood h stands)) (λ j later. later))
 
   -- A session is kept apart.
   pub keeps_apart : (id : ℕ) (view : View T) (other : ℕ) (theirs : View T) → IsForOne theirs → MayBeKeptApartBy (first_account content theirs.sessions) → IsFree theirs.sessions
-      → Joins (Ruled content begun sizes) id view other theirs (met view theirs) spent_view
+      → JoinsSeat content begun sizes id view other theirs (met view theirs) spent_view
   keeps_apart id view other theirs one may free s r at apart there =
       let b = one.number in
       let stands : get_elem? s.views other ≡ some (lone b one.marks) = sym (set_else s.views id other (met view theirs) apart) ∙ there ∙ ap some one.one in
       let shown = history-alone content r.world s.views other b one.marks stands r.seats in
       let may_by : MayBeKeptApartBy (account r.world b) = subst MayBeKeptApartBy (ap (λ (z : View T). first_account content z.sessions) one.one ∙ shown.account) may in
-      subst (λ (v : View T). Ruled content begun sizes (record { words = s.words; homes = s.homes; views = slice_set (slice_set s.views id v) other spent_view }))
+      subst (λ (v : View T). RuledSeats content begun sizes r.events (record { words = s.words; homes = s.homes; views = slice_set (slice_set s.views id v) other spent_view }))
       (sym (ap (λ (z : View T). met view z) one.one))
       (meets s r id view other b one.marks at stands apart may_by (subst (λ (z : View T). IsFree z.sessions) one.one free) view.sessions refl)
 
   -- The last one goes on by itself.
   parts : (s : State (Kept T) (View T)) (r : Ruled content begun sizes s) (id : ℕ) (view : View T) (before : List (History T)) (y : History T) (at : get_elem? s.views id ≡ some view)
       (is : view.sessions ≡ before ++ y ∷ [])
-      → Ruled content begun sizes (record {
+      → RuledSeats content begun sizes r.events (record {
         words = s.words;
         homes = s.homes;
         views = slice_set s.views id (record { next = view.next; closed = view.closed; sessions = before }) ++ record { next = None; closed = []; sessions = y ∷ [] } ∷ [];
@@ -287,29 +291,32 @@ module _ {T : Type 0} (content : T → Content) (begun : T → Option Request) (
   parts s r id view [] y at is =
       let shown = last-shown content r.world s.views id view [] y at is r.seats in
       record {
-        world = r.world;
-        events = r.events;
-        run = r.run;
-        steps = told-parted s.views r.world.numbers r.events id view [] y at is r.steps;
-        closed_so = λ h stands. r.closed_so h (closed-parted s.views r.world.numbers r.events id view [] y at is h stands);
-        safe = r.safe;
-        is_limit = r.is_limit;
-        are_groups = r.are_groups;
-        shown = r.shown;
-        seats =
-            let kept : set_at r.world.numbers.kept_by y.number None ≡ r.world.numbers.kept_by =
-            set_at-same r.world.numbers.kept_by y.number None (sym (shown.kept_by ∙ ap (λ (xs : List (History T)). keeper xs 0) is)) in
-            subst
-            (λ (k : ℕ → Option ℕ).
-            SeatsAreShown content (slice_set s.views id (record { next = view.next; closed = view.closed; sessions = [] }) ++ record { next = None; closed = []; sessions = y ∷ [] } ∷ [])
-            (with_numbers r.world (record (r.world.numbers) { kept_by = k })))
-            kept (seats-parted content r.world s.views id view [] y at is r.seats);
-        closed =
-            opener-longer r.world.numbers (slice_set s.views id (record { next = view.next; closed = view.closed; sessions = [] })) (record { next = None; closed = []; sessions = y ∷ [] }) refl
-            (opener-set r.world.numbers s.views id view (record { next = view.next; closed = view.closed; sessions = [] }) at refl (λ n says. says) r.closed);
-        wakes = wakes-moved sizes s.views _ r.events r.world r.wakes
-            (each-parted s.views r.world.numbers r.events id view [] y at is (TellsSo r.wakes.beside r.wakes.turns) (each-tells sizes s.views r.events r.world r.wakes))
-            (closed-parted s.views r.world.numbers r.events id view [] y at is);
+        goes_on = inl refl;
+        rule = record {
+          world = r.world;
+          events = r.events;
+          run = r.run;
+          steps = told-parted s.views r.world.numbers r.events id view [] y at is r.steps;
+          closed_so = λ h stands. r.closed_so h (closed-parted s.views r.world.numbers r.events id view [] y at is h stands);
+          safe = r.safe;
+          is_limit = r.is_limit;
+          are_groups = r.are_groups;
+          shown = r.shown;
+          seats =
+              let kept : set_at r.world.numbers.kept_by y.number None ≡ r.world.numbers.kept_by =
+              set_at-same r.world.numbers.kept_by y.number None (sym (shown.kept_by ∙ ap (λ (xs : List (History T)). keeper xs 0) is)) in
+              subst
+              (λ (k : ℕ → Option ℕ).
+              SeatsAreShown content (slice_set s.views id (record { next = view.next; closed = view.closed; sessions = [] }) ++ record { next = None; closed = []; sessions = y ∷ [] } ∷ [])
+              (with_numbers r.world (record (r.world.numbers) { kept_by = k })))
+              kept (seats-parted content r.world s.views id view [] y at is r.seats);
+          closed =
+              opener-longer r.world.numbers (slice_set s.views id (record { next = view.next; closed = view.closed; sessions = [] })) (record { next = None; closed = []; sessions = y ∷ [] }) refl
+              (opener-set r.world.numbers s.views id view (record { next = view.next; closed = view.closed; sessions = [] }) at refl (λ n says. says) r.closed);
+          wakes = wakes-moved sizes s.views _ r.events r.world r.wakes
+              (each-parted s.views r.world.numbers r.events id view [] y at is (TellsSo r.wakes.beside r.wakes.turns) (each-tells sizes s.views r.events r.world r.wakes))
+              (closed-parted s.views r.world.numbers r.events id view [] y at is);
+        };
       }
   parts s r id view (x ∷ before) y at is =
       let shown = last-shown content r.world s.views id view (x ∷ before) y at is r.seats in
@@ -324,22 +331,22 @@ module _ {T : Type 0} (content : T → Content) (begun : T → Option Request) (
       (told-kept (slice_set s.views id (record { next = view.next; closed = view.closed; sessions = x ∷ before }) ++ record { next = None; closed = []; sessions = y ∷ [] } ∷ [])
       r.world.numbers r.events (after_going_on r.world y.number).numbers.kept_by (told-parted s.views r.world.numbers r.events id view (x ∷ before) y at is r.steps))
       (closed-parted s.views r.world.numbers r.events id view (x ∷ before) y at is)
-      (wakes-seated sizes s.views _ r.events r.world (after_going_on r.world y.number) (record { session = y.number; step = SplitSeat }) (inr ((x.number, kept), refl)) r.wakes tt tt refl refl
+      (wakes-seated sizes s.views _ r.events r.world (after_going_on r.world y.number) (record { session = y.number; step = SplitSeat }) (inr ((x.number, kept), refl)) r.wakes tt tt refl refl refl refl
       (each-parted s.views r.world.numbers r.events id view (x ∷ before) y at is (TellsSo r.wakes.beside r.wakes.turns) (each-tells sizes s.views r.events r.world r.wakes))
       (λ h stands. r.wakes.told.closed h (closed-parted s.views r.world.numbers r.events id view (x ∷ before) y at is h stands))
       (λ j later. later))
 
-  pub hands_back : (id : ℕ) (view : View T) → HasLast view → Splits (Ruled content begun sizes) id view (parted view) (handed_back view)
+  pub hands_back : (id : ℕ) (view : View T) → HasLast view → SplitsSeat content begun sizes id view (parted view) (handed_back view)
   hands_back id view is s r at =
       let rest : all_but_last view.sessions ≡ is.before = ap all_but_last is.sessions ∙ all_but_last-of is.before is.last in
       let last : last_of view.sessions ≡ is.last ∷ [] = ap last_of is.sessions ∙ last_of-of is.before is.last in
       subst
-      (λ (views : List (View T)). Ruled content begun sizes (record { words = s.words; homes = s.homes; views = views }))
+      (λ (views : List (View T)). RuledSeats content begun sizes r.events (record { words = s.words; homes = s.homes; views = views }))
       (λ i. slice_set s.views id (record { next = view.next; closed = view.closed; sessions = sym rest i }) ++ record { next = None; closed = []; sessions = sym last i } ∷ [])
       (parts s r id view is.before is.last at is.sessions)
 
   -- Those that the opener has as closed were given out, each once.
-  pub tells_closed : (slots id i : ℕ) (me : Side T) (step : Step (Kept T)) → HasNext me.0 → Allows (Ruled content begun sizes) slots id me i (λ n. n) (ToldClosed step me)
+  pub tells_closed : (slots id i : ℕ) (me : Side T) (step : Step (Kept T)) → HasNext me.0 → AllowsStep content begun sizes slots id me i (λ n. n) (ToldClosed step me)
   tells_closed slots id i me step has s r many at below =
       let opens_at = r.seats.next id me.0 has.number at has.next in (
         me.0,
@@ -354,8 +361,16 @@ module _ {T : Type 0} (content : T → Content) (begun : T → Option Request) (
         ),
       )
 
-  -- Where two meet, no hold of the one conflicts with a hold of the other.
-  pub tells_apart : (slots id i : ℕ) (me : Side T) (step : Step (Kept T)) → IsForTwo me.0 → Allows (Ruled content begun sizes) slots id me i (λ n. n) (ToldApart content step me)
+  -- Of two histories with different numbers that is so however they are named.
+  two-numbers : (sessions : List (History T)) (one other : History T) → sessions ≡ one ∷ other ∷ [] → one.number ≢ other.number → HaveTwoNumbers sessions
+  two-numbers sessions one other both apart first second others those same =
+      let heads : one ∷ other ∷ [] ≡ first ∷ second ∷ others = sym both ∙ those in
+      let is_first : one ≡ first = cc (heads) in
+      let is_second : other ≡ second = cc (heads) in
+      apart (ap (λ (h : History T). h.number) is_first ∙ same ∙ sym (ap (λ (h : History T). h.number) is_second))
+
+  -- Where two meet, their numbers differ, and no hold of the one conflicts with a hold of the other.
+  pub tells_apart : (slots id i : ℕ) (me : Side T) (step : Step (Kept T)) → IsForTwo me.0 → AllowsStep content begun sizes slots id me i (λ n. n) (ToldApart content step me)
   tells_apart slots id i me step is s r many at below =
       let both : me.0.sessions ≡ is.first ∷ is.second ∷ [] = ap (λ (v : View T). v.sessions) is.two in
       let one = r.seats.history id 0 me.0 is.first at (ap (λ (xs : List (History T)). slice_get xs 0) both) in
@@ -371,6 +386,7 @@ module _ {T : Type 0} (content : T → Content) (begun : T → Option Request) (
         nothing-changes content begun sizes id i me.0 s r at,
         (
           refl,
+          two-numbers me.0.sessions is.first is.second both apart,
           subst (λ (v : View T). DoNotConflict (first_account content v.sessions) (first_account content (behind_of v.sessions))) (sym is.two)
               (λ tag mode its own theirs.
               no_conflict-own_world r.world r.safe is.first.number is.second.number tag mode its apart

@@ -3,7 +3,7 @@ use Rattle.std.specs.Prelude.{slice_set, slice_index}
 use mathlib.Core.Option.{some, none}
 use lib.ListN.{get_elem?}
 use lib.Seq.{set-get_or}
-use Rattle.atomic_table.specs.Table.{State, Step, step, keeps, Allows}
+use Rattle.atomic_table.specs.Table.{State, Step, step, keeps}
 use Rattle.atomic_table.proofs.Lists.{set_again}
 use Rattle.lw_word.specs.declared.wait_lists.LwWaiter.{LwWaiter}
 use Rattle.lock_table.specs.declared.request.Request.{Request}
@@ -18,6 +18,7 @@ use Rattle.lock_world.proofs.Lemmas.Accounts.Lawful.{slots-known}
 use Rattle.lock_world.proofs.Lemmas.Accounts.Slots.{slots_now}
 use mathlib.Core.Option as maybe
 use Rattle.lock_world.specs.World.{World, Words, Contents, Hand, word_in}
+use Rattle.shared_rule.specs.Allowed.{changes_nothing, RuledNext, AllowsStep}
 use Rattle.shared_rule.specs.declared.history.Mark.{Mark}
 use Rattle.shared_rule.specs.declared.history.History.{History}
 use Rattle.shared_rule.specs.declared.rule.TableSizes.{TableSizes}
@@ -32,6 +33,7 @@ use Rattle.shared_rule.specs.Slots.{HasOrShares, KnowsWord}
 use Rattle.shared_rule.specs.Plays.{Side, Marked, Looked, HasSession}
 use Rattle.shared_rule.proofs.Lemmas.Shown.{words-set}
 use Rattle.shared_rule.specs.Todos.{todo_told_by, flagged_told_by}
+use Rattle.shared_rule.specs.Owed.{owed_told}
 use Rattle.shared_rule.proofs.Lemmas.Frame.{Stepper, IsNoted, IsSeen, ruled-steps, ruled-noted, ruled-looked}
 
 -- A step that only leaves a mark is allowed where in each World it is lawful and makes that of the account,
@@ -132,9 +134,9 @@ module _ {T : Type 0} (content : T → Content) (begun : T → Option Request) (
   -- After it the rule holds.
   pub rule-after :
       (expected : ℕ → Type 0) → IsAlwaysLawful content sizes x word expected next mark
-      → (s : State (Kept T) (View T)) → Ruled content begun sizes s → get_elem? s.views id ≡ some me.0
+      → (s : State (Kept T) (View T)) (r : Ruled content begun sizes s) → get_elem? s.views id ≡ some me.0
       → (n : ℕ) → n < 2 ^ 64 → n ≡ slice_index s.words (index_of_word sizes.sessions word) → expected n
-      → Ruled content begun sizes (record { words = slice_set s.words (index_of_word sizes.sessions word) (next n); homes = s.homes; views = slice_set s.views id (noting me.0 (mark n)) })
+      → RuledNext content begun sizes r.events me.0 (noting me.0 (mark n)) (record { words = slice_set s.words (index_of_word sizes.sessions word) (next n); homes = s.homes; views = slice_set s.views id (noting me.0 (mark n)) })
   rule-after expected lawful s r at n below shows is_so =
       let steps = ruled-steps content begun sizes s r id me.0 x others at is in
       let now = lawful r.world steps n below (shows ∙ r.shown.of_words.word word exists) is_so in
@@ -148,7 +150,7 @@ module _ {T : Type 0} (content : T → Content) (begun : T → Option Request) (
 
   -- A fetch-and-add, a fetch-and-subtract, or with `next` as it is a load.
   pub marks : (step : Step (Kept T)) → IsAlwaysLawful content sizes x word (λ _. Unit {0}) next mark
-      → Allows (Ruled content begun sizes) slots id me (index_of_word sizes.sessions word) next (Marked mark step me)
+      → AllowsStep content begun sizes slots id me (index_of_word sizes.sessions word) next (Marked mark step me)
   marks step lawful s r many at below = (
     noting me.0 (mark (slice_index s.words (index_of_word sizes.sessions word))),
     keeps,
@@ -161,20 +163,21 @@ module _ {T : Type 0} (content : T → Content) (begun : T → Option Request) (
 -- A step that changes nothing.
 pub nothing-changes :
     {T : Type 0} (content : T → Content) (begun : T → Option Request) (sizes : TableSizes) (id i : ℕ) (view : View T) (s : State (Kept T) (View T))
-    → Ruled content begun sizes s → get_elem? s.views id ≡ some view
-    → Ruled content begun sizes (record { words = slice_set s.words i (slice_index s.words i); homes = s.homes; views = slice_set s.views id view })
+    → (r : Ruled content begun sizes s) → get_elem? s.views id ≡ some view
+    → RuledNext content begun sizes r.events view view (record { words = slice_set s.words i (slice_index s.words i); homes = s.homes; views = slice_set s.views id view })
 nothing-changes {T} content begun sizes id i view s r at =
-    subst (λ (words : List ℕ). Ruled content begun sizes (record { words = words; homes = s.homes; views = slice_set s.views id view })) (sym (set-get_or s.words i 0))
-    (subst (λ (views : List (View T)). Ruled content begun sizes (record { words = s.words; homes = s.homes; views = views })) (sym (set_again s.views id view at)) r)
+    subst (λ (words : List ℕ). RuledNext content begun sizes r.events view view (record { words = words; homes = s.homes; views = slice_set s.views id view })) (sym (set-get_or s.words i 0))
+    (subst (λ (views : List (View T)). RuledNext content begun sizes r.events view view (record { words = s.words; homes = s.homes; views = views })) (sym (set_again s.views id view at))
+    (record { rule = r; goes_on = changes_nothing refl refl }))
 
 -- What a mark says of a word is so of the word at its index: a play of a mark reads nothing else of its step.
 pub marks_at :
     {T : Type 0} {content : T → Content} {begun : T → Option Request} {sizes : TableSizes} {slots : ℕ} (id : ℕ) {me : Side T} (session : HasSession me.0)
     → (word : Word) → IsInTable sizes word → (i : ℕ) → i ≡ index_of_word sizes.sessions word → (next : ℕ → ℕ) (mark its : ℕ → Mark T) → mark ≡ its
     → IsAlwaysLawful content sizes session.history word (λ _. Unit {0}) next its
-    → Allows (Ruled content begun sizes) slots id me i next (Marked mark (step 0 0 0 0 none) me)
+    → AllowsStep content begun sizes slots id me i next (Marked mark (step 0 0 0 0 none) me)
 marks_at {T} {content} {begun} {sizes} {slots} id {me} session word exists i at next mark its same lawful =
-    subst (λ k. Allows (Ruled content begun sizes) slots id me k next (Marked mark (step 0 0 0 0 none) me)) (sym at)
+    subst (λ k. AllowsStep content begun sizes slots id me k next (Marked mark (step 0 0 0 0 none) me)) (sym at)
     (marks content begun sizes slots id me session.history session.others session.sessions word exists next mark (step 0 0 0 0 none)
     (subst (IsAlwaysLawful content sizes session.history word (λ _. Unit {0}) next) (sym same) lawful))
 
@@ -199,14 +202,14 @@ pub looks_at :
     {T : Type 0} {content : T → Content} {begun : T → Option Request} {sizes : TableSizes} {slots : ℕ} (id : ℕ) {me : Side T} (session : HasSession me.0)
     → (word : Word) → IsInTable sizes word → (i : ℕ) → i ≡ index_of_word sizes.sessions word → (first : ℕ) (next : ℕ → ℕ) (mark its : ℕ → Mark T) → mark ≡ its
     → NamesNoOther word mark → IsAlwaysLawful content sizes session.history word (λ _. Unit {0}) next its
-    → Allows (Ruled content begun sizes) slots id me i next (Looked content mark (step slots i first 0 none) me)
+    → AllowsStep content begun sizes slots id me i next (Looked content mark (step slots i first 0 none) me)
 looks_at {T} {content} {begun} {sizes} {slots} id {me} session word exists i at first next mark its same names lawful =
-    subst (λ k. Allows (Ruled content begun sizes) slots id me k next (Looked content mark (step slots k first 0 none)
+    subst (λ k. AllowsStep content begun sizes slots id me k next (Looked content mark (step slots k first 0 none)
     me)) (sym at) here where
       x : History T
       x = session.history
 
-      here : Allows (Ruled content begun sizes) slots id me (index_of_word sizes.sessions word) next
+      here : AllowsStep content begun sizes slots id me (index_of_word sizes.sessions word) next
           (Looked content mark (step slots (index_of_word sizes.sessions word) first 0 none) me)
       here s r many at_view below =
           let n : ℕ = slice_index s.words (index_of_word sizes.sessions word) in
@@ -233,9 +236,9 @@ pub stores_at :
     {T : Type 0} {content : T → Content} {begun : T → Option Request} {sizes : TableSizes} {slots : ℕ} (id : ℕ) {me : Side T} (session : HasSession me.0)
     → (word : Word) → IsInTable sizes word → (i : ℕ) → i ≡ index_of_word sizes.sessions word → (new : ℕ) (mark : ℕ → Mark T) (left : Mark T) → mark ≡ (λ _. left)
     → IsAlwaysLawful content sizes session.history word (λ _. Unit {0}) (λ _. new) (λ _. left)
-    → Allows (Ruled content begun sizes) slots id me i (λ _. new) (λ _. Marked mark (step 0 0 0 0 none) me new)
+    → AllowsStep content begun sizes slots id me i (λ _. new) (λ _. Marked mark (step 0 0 0 0 none) me new)
 stores_at {T} {content} {begun} {sizes} {slots} id {me} session word exists i at new mark left same lawful =
-    subst (λ (m : ℕ → Mark T). Allows (Ruled content begun sizes) slots id me i (λ _. new) (λ _. Marked m (step 0 0 0 0 none) me new)) (sym same)
+    subst (λ (m : ℕ → Mark T). AllowsStep content begun sizes slots id me i (λ _. new) (λ _. Marked m (step 0 0 0 0 none) me new)) (sym same)
     (marks_at id session word exists i at (λ _. new) (λ _. left) (λ _. left) refl lawful)
 
 -- The session's own number is that of its history.
@@ -249,7 +252,7 @@ pub marks_at_own :
     → (word : ℕ → Word) → ((k : ℕ) → k < sizes.sessions → IsInTable sizes (word k)) → (i : ℕ) → i ≡ index_of_word sizes.sessions (word number)
     → (next : ℕ → ℕ) (mark its : ℕ → Mark T) → mark ≡ its
     → IsAlwaysLawful content sizes session.history (word session.history.number) (λ _. Unit {0}) next its
-    → Allows (Ruled content begun sizes) slots id me i next (Marked mark (step 0 0 0 0 none) me)
+    → AllowsStep content begun sizes slots id me i next (Marked mark (step 0 0 0 0 none) me)
 marks_at_own {sizes = sizes} id session number own among word exists i at next mark its same lawful =
     let it = own-number session number own in
     marks_at id session (word session.history.number) (exists session.history.number (subst (λ n. n < sizes.sessions) it among)) i
@@ -262,7 +265,7 @@ pub stores_at_own :
     → (word : ℕ → Word) → ((k : ℕ) → k < sizes.sessions → IsInTable sizes (word k)) → (i : ℕ) → i ≡ index_of_word sizes.sessions (word number)
     → (new : ℕ) (mark : ℕ → Mark T) (left : Mark T) → mark ≡ (λ _. left)
     → IsAlwaysLawful content sizes session.history (word session.history.number) (λ _. Unit {0}) (λ _. new) (λ _. left)
-    → Allows (Ruled content begun sizes) slots id me i (λ _. new) (λ _. Marked mark (step 0 0 0 0 none) me new)
+    → AllowsStep content begun sizes slots id me i (λ _. new) (λ _. Marked mark (step 0 0 0 0 none) me new)
 stores_at_own {sizes = sizes} id session number own among word exists i at new mark left same lawful =
     let it = own-number session number own in
     stores_at id session (word session.history.number) (exists session.history.number (subst (λ n. n < sizes.sessions) it among)) i
@@ -271,18 +274,44 @@ stores_at_own {sizes = sizes} id session number own among word exists i at new m
 -- A look at a word that stays as it is.
 pub looks-only :
     {T : Type 0} (content : T → Content) (begun : T → Option Request) (sizes : TableSizes) (id i : ℕ) (view : View T) (x : History T) (others : List (History T)) → view.sessions ≡ x ∷ others
-    → (s : State (Kept T) (View T)) (r : Ruled content begun sizes s) → get_elem? s.views id ≡ some view → (mark : Mark T) → IsSeen r.world (todo_told_by x.number x.marks) mark
-    → Ruled content begun sizes (record { words = slice_set s.words i (slice_index s.words i); homes = s.homes; views = slice_set s.views id (noting view mark) })
+    → (s : State (Kept T) (View T)) (r : Ruled content begun sizes s) → get_elem? s.views id ≡ some view → (mark : Mark T) → IsSeen r.world x.number (todo_told_by x.number x.marks) (owed_told x.marks) mark
+    → RuledNext content begun sizes r.events view (noting view mark) (record { words = slice_set s.words i (slice_index s.words i); homes = s.homes; views = slice_set s.views id (noting view mark) })
 looks-only {T} content begun sizes id i view x others is s r at mark seen =
-    subst (λ (words : List ℕ). Ruled content begun sizes (record { words = words; homes = s.homes; views = slice_set s.views id (noting view mark) })) (sym (set-get_or s.words i 0))
+    subst (λ (words : List ℕ). RuledNext content begun sizes r.events view (noting view mark) (record { words = words; homes = s.homes; views = slice_set s.views id (noting view mark) })) (sym (set-get_or s.words i 0))
     (ruled-looked content begun sizes s r id view x others at is mark seen)
 
 -- A call: a load that leaves its mark, and changes nothing.
 pub calls_at :
     {T : Type 0} {content : T → Content} {begun : T → Option Request} {sizes : TableSizes} {slots : ℕ} (id i : ℕ) {me : Side T} (session : HasSession me.0)
-    → (mark : ℕ → Mark T) (left : Mark T) → mark ≡ (λ _. left) → ((w : World) → IsSeen w (todo_told_by session.history.number session.history.marks) left)
-    → Allows (Ruled content begun sizes) slots id me i (λ n. n) (Marked mark (step 0 0 0 0 none) me)
+    → (mark : ℕ → Mark T) (left : Mark T) → mark ≡ (λ _. left) → ((w : World) → IsSeen w session.history.number (todo_told_by session.history.number session.history.marks) (owed_told session.history.marks) left)
+    → AllowsStep content begun sizes slots id me i (λ n. n) (Marked mark (step 0 0 0 0 none) me)
 calls_at {T} {content} {begun} {sizes} {slots} id i {me} session mark left same seen =
-    subst (λ (m : ℕ → Mark T). Allows (Ruled content begun sizes) slots id me i (λ n. n) (Marked m (step 0 0 0 0 none) me)) (sym same)
+    subst (λ (m : ℕ → Mark T). AllowsStep content begun sizes slots id me i (λ n. n) (Marked m (step 0 0 0 0 none) me)) (sym same)
     (λ s r many at below.
     (noting me.0 left, keeps, tt, looks-only content begun sizes id i me.0 session.history session.others session.sessions s r at left (seen r.world), refl))
+
+-- A look at a word of its own, right before the session parks there.
+pub parks_at :
+    {T : Type 0} {content : T → Content} {begun : T → Option Request} {sizes : TableSizes} {slots : ℕ} (id : ℕ) {me : Side T} (session : HasSession me.0)
+    (number : ℕ) → number ≡ first_number me.0.sessions → number < sizes.sessions
+    → (word : ℕ → Word) → ((k : ℕ) → k < sizes.sessions → IsInTable sizes (word k)) → (i : ℕ) → i ≡ index_of_word sizes.sessions (word number)
+    → (mark its : ℕ → Mark T) → mark ≡ its
+    → ((w : World) → Stepper sizes w session.history.number (told content session.history.number session.history.marks) → (n : ℕ) → n ≡ word_in w.words (word session.history.number)
+    → IsSeen w session.history.number (todo_told_by session.history.number session.history.marks) (owed_told session.history.marks) (its n))
+    → AllowsStep content begun sizes slots id me i (λ n. n) (Marked mark (step 0 0 0 0 none) me)
+parks_at {T} {content} {begun} {sizes} {slots} id {me} session number own among word exists i at mark its same seen =
+    let x : History T = session.history in
+    let it = own-number session number own in
+    let there = exists x.number (subst (λ n. n < sizes.sessions) it among) in
+    let place : i ≡ index_of_word sizes.sessions (word x.number) = at ∙ ap (λ n. index_of_word sizes.sessions (word n)) it in
+    subst (λ (m : ℕ → Mark T). AllowsStep content begun sizes slots id me i (λ n. n) (Marked m (step 0 0 0 0 none) me)) (sym same)
+    (λ s r many at_view below.
+    let n : ℕ = slice_index s.words i in (
+      noting me.0 (its n),
+      keeps,
+      tt,
+      looks-only content begun sizes id i me.0 x session.others session.sessions s r at_view (its n)
+          (seen r.world (ruled-steps content begun sizes s r id me.0 x session.others at_view session.sessions) n
+          (ap (λ k. slice_index s.words k) place ∙ r.shown.of_words.word (word x.number) there)),
+      refl,
+    ))

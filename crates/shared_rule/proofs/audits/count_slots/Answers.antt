@@ -1,3 +1,4 @@
+use Rattle.shared_rule.specs.Plays.{side_of}
 use Rattle.std.proofs.Common.{◌≡◌, ◌*◌, arith, refl, ◌∙◌, subst}
 use Rattle.std.specs.Prelude.{IfSome}
 use Rattle.lock_world.specs.SlotHolds.{group_size}
@@ -10,7 +11,7 @@ pub loop-number-init : goal.loop-number-init
 loop-number-init g c = record {
   seat = same-seat c.args.seat.now;
   shelves = refl;
-  sees = sees-no_session g.T.PartTable.content c.args.sizes.now.groups c.args.seat.now.me.0 c.requires.session;
+  sees = sees-no_session g.T.PartTable.content c.args.sizes.now.groups (side_of c.args.seat.now).0 c.requires.session;
   few = omega arith;
 }
 
@@ -25,9 +26,9 @@ loop-number-preserved g c =
     record {
       seat = same-seat_then c.args.seat.now c.loop-number.seat c.count_slots_of-sum.new.seat so_far.seat c.count_slots_of-sum.ensures.same_seat;
       shelves = c.count_slots_of-sum.ensures.shelves ∙ so_far.shelves;
-      sees = sees-session content c.args.sizes.now.groups c.loop-number.number c.args.seat.now.me.0 c.loop-number.seat.me.0 c.count_slots_of-sum.new.seat.me.0
+      sees = sees-session content c.args.sizes.now.groups c.loop-number.number (side_of c.args.seat.now).0 (side_of c.loop-number.seat).0 (side_of c.count_slots_of-sum.new.seat).0
           c.loop-number.sum _ c.count_slots_of-sum.result c.requires.session so_far.sees
-          (subst (λ k. SeesSlots content k (group_size * c.args.sizes.now.groups) c.loop-number.seat.me.0 c.count_slots_of-sum.new.seat.me.0 c.count_slots_of-sum.result) owner c.count_slots_of-sum.ensures.sees)
+          (subst (λ k. SeesSlots content k (group_size * c.args.sizes.now.groups) (side_of c.loop-number.seat).0 (side_of c.count_slots_of-sum.new.seat).0 c.count_slots_of-sum.result) owner c.count_slots_of-sum.ensures.sees)
           refl;
       few = omega (arith, few, most);
     }

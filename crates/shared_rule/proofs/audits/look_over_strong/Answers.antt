@@ -1,3 +1,4 @@
+use Rattle.shared_rule.specs.Plays.{side_of}
 use Rattle.std.proofs.Common.{ℕ, refl, ap}
 use Rattle.lock_world.specs.declared.events.Word.TheVariants.{Strong}
 use Rattle.shared_rule.specs.declared.history.Mark.{Mark}
@@ -10,7 +11,7 @@ use Rattle.shared_rule.proofs.audits.look_over_strong.Goals as goal
 pub look_over_as-requires-clause-allowed : goal.look_over_as-requires-clause-allowed
 look_over_as-requires-clause-allowed g c =
     let session = c.requires.session in
-    looks_over_at g.T.PartTable.content g.T.PartTable.begun c.args.words.now.key c.args.words.now.table_id.slots c.args.seat.now.id c.args.seat.now.me session.history session.others session.sessions
+    looks_over_at g.T.PartTable.content g.T.PartTable.begun c.args.words.now.key c.args.words.now.table_id.slots c.args.seat.now.id (side_of c.args.seat.now) session.history session.others session.sessions
     (Strong c.args.index) (c.requires.within, tt) c.strong_word.result (c.strong_word.ensures.index c.args.words.now.key.sessions) g.M.Marking.mark _ c.requires.mark
     (names-one (Strong c.args.index) g.M.Marking.mark _ c.requires.mark (λ _. refl)) (loading_strong-lawful g.T.PartTable.content c.args.words.now.key c.requires.session.history c.args.index c.requires.within)
 

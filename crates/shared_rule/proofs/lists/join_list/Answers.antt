@@ -5,7 +5,7 @@ use Rattle.lock_world.specs.AccountSteps.{account_joining_list}
 use Rattle.lock_world.specs.AccountLaw.{MayJoinListBy}
 use Rattle.shared_rule.specs.declared.history.History.{History}
 use Rattle.shared_rule.specs.History.{first_account, list_here}
-use Rattle.shared_rule.specs.Plays.{Side, account_at}
+use Rattle.shared_rule.specs.Plays.{side_of, Side, account_at}
 use Rattle.lock_world.specs.Wakes.Waking.{NoneOr}
 use Rattle.shared_rule.specs.Todos.{first_todo}
 use Rattle.shared_rule.proofs.Lemmas.Taken.{flagged-known, owes-known, joins-known}
@@ -22,8 +22,8 @@ store_as-requires-clause-allowed g c =
     → NoneOr (first_todo sessions).tries mine.lock) c.requires.session.sessions c.requires.no_other in
     stores_at_own _ c.requires.session c.args.number c.requires.own c.requires.among
     Sleep (λ k there. (tt, there)) c.sleep_word.result (c.sleep_word.ensures.index c.args.words.now.key.sessions) 1 g.M.Marking.mark _ c.requires.mark
-    (joining-lawful g.T.PartTable.content c.args.words.now.key c.requires.session.history may.0 c.args.mode may.1 (flagged-known c.args.seat.now.me.0 c.requires.session c.requires.flagged)
-    (owes-known c.args.seat.now.me.0 c.requires.session c.requires.owes_no_ok) no_other (joins-known g.T.PartTable.content c.args.seat.now.me.0 c.requires.session c.requires.latest))
+    (joining-lawful g.T.PartTable.content c.args.words.now.key c.requires.session.history may.0 c.args.mode may.1 (flagged-known (side_of c.args.seat.now).0 c.requires.session c.requires.flagged)
+    (owes-known (side_of c.args.seat.now).0 c.requires.session c.requires.owes_no_ok) no_other (joins-known g.T.PartTable.content (side_of c.args.seat.now).0 c.requires.session c.requires.latest))
 
 pub returns-clause-led : goal.returns-clause-led
 returns-clause-led g c =

@@ -14,3 +14,6 @@ load_as-requires-clause-allowed g c =
 
 pub returns-clause-led : goal.returns-clause-led
 returns-clause-led g c = led-marked {mark = LoadedSleep} c.load_as.result c.requires.session c.load_as.ensures.same_seat c.load_as.ensures.side refl (λ owed i. owed)
+
+pub load_as-requires-clause-no_call : goal.load_as-requires-clause-no_call
+load_as-requires-clause-no_call g c = λ n. refl

@@ -4,7 +4,7 @@ use Rattle.lock_world.specs.Account.{ListInHand}
 use Rattle.shared_rule.specs.declared.history.History.{History}
 use Rattle.shared_rule.specs.History.{first_account, noting}
 use Rattle.shared_rule.specs.LwLocks.{word_of_lock, lock_number}
-use Rattle.shared_rule.specs.Plays.{Side}
+use Rattle.shared_rule.specs.Plays.{side_of, Side}
 use Rattle.shared_rule.proofs.Lemmas.Events.Words.{names-none, looks_at}
 use Rattle.shared_rule.proofs.Lemmas.Events.ListSteps.{setting_has_waiters-lawful}
 use Rattle.shared_rule.proofs.Lemmas.Events.ListShelves.{lock-word_there}
@@ -31,5 +31,5 @@ pub returns-clause-flagged : goal.returns-clause-flagged
 returns-clause-flagged g c =
     let seat = c.args.seat.now in
     ap (λ (side : Side g.row.T.Denot). first_flagged side.0.sessions) (c.fetch_or_as.ensures.side
-    ∙ ap (λ m. (noting seat.me.0 (m c.fetch_or_as.result), seat.me.1)) c.requires.mark)
-    ∙ flagged-noted seat.me.0 (SetHasWaiters (lock_number c.args.lock.now)) c.requires.session
+    ∙ ap (λ m. (noting (side_of seat).0 (m c.fetch_or_as.result), (side_of seat).1)) c.requires.mark)
+    ∙ flagged-noted (side_of seat).0 (SetHasWaiters (lock_number c.args.lock.now)) c.requires.session

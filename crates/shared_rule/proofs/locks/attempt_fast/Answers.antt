@@ -1,7 +1,14 @@
+use Rattle.shared_rule.specs.Plays.{TookSlotsOr, unnoted}
+use Rattle.atomic_table.specs.Table.{step}
+use mathlib.Core.Option.{none}
+use prog.Atomic.{either}
+use Rattle.std.specs.Prelude.{◌==◌}
+use Rattle.shared_rule.specs.Plays.{side_of}
 use Rattle.std.proofs.Common.{rules, ap, subst}
 use Rattle.lw_word.specs.declared.words.LwMode.TheVariants.{Exclusive}
 use Rattle.shared_rule.specs.Acquires.{GetsSlots}
 use Rattle.lock_world.specs.WaitLists.{fast_lock}
+use Rattle.shared_rule.proofs.Lemmas.Placed.{allowed}
 use Rattle.shared_rule.proofs.Lemmas.Taken.{attempt-known}
 use Rattle.shared_rule.proofs.Lemmas.Acquires.{took-slots}
 use Rattle.shared_rule.proofs.Lemmas.Events.Locks.{takes_fast_at}
@@ -14,10 +21,12 @@ compare_exchange-requires g c =
     let session = c.requires.session in (
       c.requires.table.at,
       search rules,
-      takes_fast_at g.T.PartTable.content g.T.PartTable.begun c.args.words.now.key c.args.words.now.table_id.slots
-          seat.id seat.me session.history session.others session.sessions
-          c.args.owner c.requires.exists g.G.Sizing.sizes.groups c.args.shown c.args.taken (ap (λ (s : TableSizes). s.groups) c.requires.sizes) c.requires.free.0 c.requires.free.1 (attempt-known g.T.PartTable.content seat.me.0 session (fast_lock c.args.owner) c.requires.no_other_try c.requires.no_other_list)
-          c.fast_word.result (c.fast_word.ensures.index c.args.words.now.key.sessions),
+      allowed g.T.PartTable.content g.T.PartTable.begun c.args.words.now.key c.args.words.now.table_id.slots c.args.seat.now.id c.args.seat.now.me c.fast_word.result
+          (λ n. either (n == c.args.shown) c.args.taken n) (TookSlotsOr g.T.PartTable.content g.G.Sizing.sizes.groups unnoted (step c.args.words.now.table_id.slots c.fast_word.result c.args.shown c.args.taken none) (side_of seat))
+          (takes_fast_at g.T.PartTable.content g.T.PartTable.begun c.args.words.now.key c.args.words.now.table_id.slots
+          seat.id (side_of seat) session.history session.others session.sessions
+          c.args.owner c.requires.exists g.G.Sizing.sizes.groups c.args.shown c.args.taken (ap (λ (s : TableSizes). s.groups) c.requires.sizes) c.requires.free.0 c.requires.free.1 (attempt-known g.T.PartTable.content (side_of seat).0 session (fast_lock c.args.owner) c.requires.no_other_try c.requires.no_other_list)
+          c.fast_word.result (c.fast_word.ensures.index c.args.words.now.key.sessions)),
     )
 
 pub returns-clause-won : goal.returns-clause-won

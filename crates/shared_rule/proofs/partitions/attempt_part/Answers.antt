@@ -1,3 +1,8 @@
+use Rattle.shared_rule.specs.Plays.{TookPartition}
+use Rattle.atomic_table.specs.Table.{step}
+use mathlib.Core.Option.{none}
+use prog.Atomic.{either}
+use Rattle.std.specs.Prelude.{◌==◌}
 use Rattle.std.proofs.Common.{rules, ◌≡◌, ◌∷◌, sym, ap, ◌∙◌, subst}
 use Rattle.lock_world.specs.AccountFacts.{KnowsContent}
 use Rattle.shared_rule.specs.Marks.{TookPart}
@@ -5,10 +10,11 @@ use Rattle.shared_rule.specs.declared.kept.Kept.TheVariants.{Part, Nothing}
 use Rattle.shared_rule.specs.Layout.{content_shelf_of}
 use Rattle.shared_rule.specs.History.{noting}
 use Rattle.lock_world.specs.WaitLists.{partition_lock}
+use Rattle.shared_rule.proofs.Lemmas.Placed.{allowed}
 use Rattle.shared_rule.proofs.Lemmas.Taken.{attempt-known}
 use Rattle.shared_rule.proofs.Lemmas.Events.Partitions.{takes_part_at, part-same}
 use Rattle.lock_world.specs.AccountSteps.{account_taking}
-use Rattle.shared_rule.specs.Plays.{Side, account_at, number_at}
+use Rattle.shared_rule.specs.Plays.{side_in, side_of, Side, account_at, number_at}
 use Rattle.shared_rule.proofs.Lemmas.Led.{led-noted, led_to-as}
 use Rattle.shared_rule.proofs.Lemmas.Sides.{last-shelf, last-came, last-set}
 use Rattle.shared_rule.specs.declared.rule.TableSizes.{TableSizes}
@@ -22,9 +28,11 @@ compare_exchange-requires g c =
     let session = c.requires.session in (
       c.requires.table.at,
       search rules,
-      takes_part_at g.T.PartTable.content g.T.PartTable.begun c.args.words.now.key seat.id seat.me session.history session.others session.sessions
+      allowed g.T.PartTable.content g.T.PartTable.begun c.args.words.now.key c.args.words.now.table_id.slots c.args.seat.now.id c.args.seat.now.me c.partition_word.result
+          (λ n. either (n == c.args.shown) c.args.taken n) (TookPartition g.T.PartTable.content g.T.PartTable.begun g.G.Sizing.sizes.sessions (step c.args.words.now.table_id.slots c.partition_word.result c.args.shown c.args.taken none) (side_of seat))
+          (takes_part_at g.T.PartTable.content g.T.PartTable.begun c.args.words.now.key seat.id (side_of seat) session.history session.others session.sessions
           c.args.part c.requires.exists c.args.words.now.table_id.slots c.partition_word.result sized.shelves (c.partition_word.ensures.index c.args.words.now.key.sessions)
-          g.G.Sizing.sizes.sessions c.args.shown c.args.taken (ap (λ (s : TableSizes). s.sessions) c.requires.sizes) c.requires.free.0 c.requires.free.1 (attempt-known g.T.PartTable.content seat.me.0 session (partition_lock c.args.part) c.requires.no_other_try c.requires.no_other_list),
+          g.G.Sizing.sizes.sessions c.args.shown c.args.taken (ap (λ (s : TableSizes). s.sessions) c.requires.sizes) c.requires.free.0 c.requires.free.1 (attempt-known g.T.PartTable.content (side_of seat).0 session (partition_lock c.args.part) c.requires.no_other_try c.requires.no_other_list)),
     )
 
 pub exchange-requires : goal.exchange-requires
@@ -33,8 +41,8 @@ exchange-requires g c =
       c.compare_exchange.ensures.0 ∙ c.requires.table.at,
       (
         Part took.part,
-        last-shelf c.compare_exchange.new.seat.me (noting c.args.seat.now.me.0 (TookPart c.args.part took.part)) c.content_shelf.result (content_shelf_of c.args.part) (Part took.part)
-            c.args.seat.now.me.1 took.side c.content_shelf.ensures.shelf,
+        last-shelf (side_of c.compare_exchange.new.seat) (noting (side_of c.args.seat.now).0 (TookPart c.args.part took.part)) c.content_shelf.result (content_shelf_of c.args.part) (Part took.part)
+            (side_of c.args.seat.now).1 took.side c.content_shelf.ensures.shelf,
       ),
     )
 
@@ -42,8 +50,8 @@ pub into_part-requires : goal.into_part-requires
 into_part-requires g c =
     let took = c.compare_exchange.ensures.2.0 (search rules) c.args.part c.requires.exists (c.partition_word.ensures.index g.G.Sizing.sizes.sessions) in
     let came : c.exchange.result ≡ Part took.part =
-    last-came c.compare_exchange.new.seat.me (noting c.args.seat.now.me.0 (TookPart c.args.part took.part)) c.content_shelf.result (content_shelf_of c.args.part) (Part took.part) c.exchange.result
-    c.args.seat.now.me.1 took.side c.exchange.ensures.2 in
+    last-came (side_of c.compare_exchange.new.seat) (noting (side_of c.args.seat.now).0 (TookPart c.args.part took.part)) c.content_shelf.result (content_shelf_of c.args.part) (Part took.part) c.exchange.result
+    (side_of c.args.seat.now).1 took.side c.exchange.ensures.2 in
     (took.part, came)
 
 pub returns-clause-won : goal.returns-clause-won
@@ -54,11 +62,11 @@ returns-clause-won g c =
     let part = c.args.part in
     let took = c.compare_exchange.ensures.2.0 (search rules) part c.requires.exists (c.partition_word.ensures.index g.G.Sizing.sizes.sessions) in
     let came : c.exchange.result ≡ Part took.part =
-    last-came c.compare_exchange.new.seat.me (noting seat.me.0 (TookPart part took.part)) c.content_shelf.result (content_shelf_of part)
-    (Part took.part) c.exchange.result seat.me.1 took.side c.exchange.ensures.2 in
+    last-came (side_of c.compare_exchange.new.seat) (noting (side_of seat).0 (TookPart part took.part)) c.content_shelf.result (content_shelf_of part)
+    (Part took.part) c.exchange.result (side_of seat).1 took.side c.exchange.ensures.2 in
     let same : took.part ≡ c.into_part.result = part-same took.part c.into_part.result (sym came ∙ c.into_part.ensures) in
-    let side = last-set c.compare_exchange.new.seat.me after.me (noting seat.me.0 (TookPart part took.part)) c.content_shelf.result
-    (content_shelf_of part) (Part took.part) Nothing seat.me.1 took.side c.content_shelf.ensures.shelf c.exchange.ensures.3 in
+    let side = last-set (side_of c.compare_exchange.new.seat) (side_of after) (noting (side_of seat).0 (TookPart part took.part)) c.content_shelf.result
+    (content_shelf_of part) (Part took.part) Nothing (side_of seat).1 took.side c.content_shelf.ensures.shelf (ap side_in c.exchange.ensures.3) in
     record {
       led = led_to-as content seat after _ _ _
           (led-noted content seat after (TookPart part took.part) c.requires.session
@@ -81,9 +89,9 @@ returns-clause-side g c =
     let seat = c.args.seat.now in
     let took = c.compare_exchange.ensures.2.0 (search rules) part c.requires.exists (c.partition_word.ensures.index g.G.Sizing.sizes.sessions) in
     let came : c.exchange.result ≡ Part took.part =
-    last-came c.compare_exchange.new.seat.me (noting seat.me.0 (TookPart part took.part)) c.content_shelf.result (content_shelf_of part)
-    (Part took.part) c.exchange.result seat.me.1 took.side c.exchange.ensures.2 in
+    last-came (side_of c.compare_exchange.new.seat) (noting (side_of seat).0 (TookPart part took.part)) c.content_shelf.result (content_shelf_of part)
+    (Part took.part) c.exchange.result (side_of seat).1 took.side c.exchange.ensures.2 in
     let same : took.part ≡ c.into_part.result = part-same took.part c.into_part.result (sym came ∙ c.into_part.ensures) in
-    last-set c.compare_exchange.new.seat.me c.exchange.new.seat.me (noting seat.me.0 (TookPart part took.part)) c.content_shelf.result
-    (content_shelf_of part) (Part took.part) Nothing seat.me.1 took.side c.content_shelf.ensures.shelf c.exchange.ensures.3
-    ∙ ap (λ its. (noting seat.me.0 (TookPart part its), (content_shelf_of part, Nothing) ∷ seat.me.1)) same
+    last-set (side_of c.compare_exchange.new.seat) (side_of c.exchange.new.seat) (noting (side_of seat).0 (TookPart part took.part)) c.content_shelf.result
+    (content_shelf_of part) (Part took.part) Nothing (side_of seat).1 took.side c.content_shelf.ensures.shelf (ap side_in c.exchange.ensures.3)
+    ∙ ap (λ its. (noting (side_of seat).0 (TookPart part its), (content_shelf_of part, Nothing) ∷ (side_of seat).1)) same

@@ -1,4 +1,4 @@
-use Rattle.std.proofs.Common.{◌≡◌, false, List, Some, inl, sym, ap, ◌∙◌}
+use Rattle.std.proofs.Common.{◌≡◌, false, List, Some, inl, inr, sym, ap, ◌∙◌}
 use Rattle.lw_word.specs.declared.wait_lists.LwWaiter.{LwWaiter}
 use Rattle.lw_word.specs.WaitList.{Waiting, stands_in, without}
 use Rattle.shared_rule.specs.LwLocks.{lock_number}
@@ -7,7 +7,7 @@ use Rattle.lock_world.specs.Account.{Account, ListAccount}
 use Rattle.lock_world.specs.AccountSteps.{account_unlocking_list, account_leaving_list}
 use Rattle.shared_rule.specs.History.{list_here}
 use Rattle.shared_rule.specs.Plays.{account_at, number_at}
-use Rattle.shared_rule.specs.Todos.{Todo, still_has}
+use Rattle.shared_rule.specs.Todos.{Todo, still_has, lock_of_list}
 use Rattle.shared_rule.proofs.Lemmas.Queueing.{list-in_hand, dequeued, taken_off-told, won-todo, got-left}
 use Rattle.shared_rule.proofs.queues.dequeue_self.Goals as goal
 
@@ -82,7 +82,12 @@ sleep_until_told-requires-clause-may g c =
     let done = c.unlock_list-else-leave.ensures.led.todo ∙ c.set_release_ok.ensures.led.todo
     ∙ won-todo g.T.PartTable.content c.args.seat.now c.lock_list-list.new.seat (lock_number c.args.lock.now) waiters c.lock_list-list.ensures.led
     (number_at c.lock_list-list.new.seat) c.requires.queued c.requires.todo (ap (λ n. stands_in n waiters) number ∙ missing) in
+    let account = c.unlock_list-else-leave.ensures.led.account ∙ ap account_unlocking_list (c.set_release_ok.ensures.led.account ∙ c.lock_list-list.ensures.led.account) in
     record {
+      lock = c.args.lock.now;
+      stands = ap (λ (a : Account). a.lists.stands) account ∙ ap (λ (lists : ListAccount). lists.stands) c.requires.queued;
+      not_won = inr (ap (λ (todo : Todo). todo.owes_release_ok) done);
+      wakes_nobody = c.unlock_list-else-leave.ensures.led.owed ∙ c.set_release_ok.ensures.led.owed ∙ c.lock_list-list.ensures.led.owed ∙ c.requires.wakes_nobody;
       no_look = ap (λ (todo : Todo). todo.due) done;
       no_try = ap (λ (todo : Todo). todo.tries) done;
       calls_nobody = λ other. ap (λ (todo : Todo). todo.calls other) done;
@@ -91,3 +96,7 @@ sleep_until_told-requires-clause-may g c =
           ap (λ (a : Account). a.lists.off other) (c.unlock_list-else-leave.ensures.led.account ∙ ap account_unlocking_list (c.set_release_ok.ensures.led.account ∙ c.lock_list-list.ensures.led.account))
           ∙ ap (λ (lists : ListAccount). lists.off other) c.requires.queued;
     }
+
+pub set_release_ok-requires-clause-told : goal.set_release_ok-requires-clause-told
+set_release_ok-requires-clause-told g c = λ owes.
+    inr (ap lock_of_list (list-in_hand g.T.PartTable.content c.args.seat.now c.lock_list-list.new.seat (lock_number c.args.lock.now) c.lock_list-list.result.value.waiters c.lock_list-list.ensures.led))

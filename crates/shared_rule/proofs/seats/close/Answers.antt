@@ -1,4 +1,6 @@
+use Rattle.shared_rule.specs.Plays.{side_of}
 use Rattle.std.proofs.Common.{rules}
+use Rattle.shared_rule.proofs.Lemmas.Placed.{closes-in-order}
 use Rattle.shared_rule.proofs.Lemmas.Events.Seats.{closes}
 use Rattle.shared_rule.proofs.seats.close.Goals as goal
 
@@ -10,5 +12,5 @@ join_seat-requires g c =
       c.requires.session_table.at,
       c.requires.nothing_in_hand,
       search rules,
-      closes g.T.PartTable.content g.T.PartTable.begun c.args.words.now.key seat.id seat.me.0 other.id other.me.0 c.requires.opener c.requires.one c.requires.lawful c.requires.todo c.requires.wakes_nobody,
+      closes-in-order g.T.PartTable.content g.T.PartTable.begun c.args.words.now.key seat.id seat.me.0 other.id other.me.0 c.requires.one (closes g.T.PartTable.content g.T.PartTable.begun c.args.words.now.key seat.id (side_of seat).0 other.id (side_of other).0 c.requires.opener c.requires.one c.requires.lawful c.requires.todo c.requires.wakes_nobody),
     )

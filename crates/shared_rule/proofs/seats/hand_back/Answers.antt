@@ -1,4 +1,6 @@
+use Rattle.shared_rule.specs.Plays.{side_of}
 use Rattle.std.proofs.Common.{rules}
+use Rattle.shared_rule.proofs.Lemmas.Placed.{hands-back-in-order}
 use Rattle.shared_rule.proofs.Lemmas.Events.Seats.{hands_back}
 use Rattle.shared_rule.proofs.seats.hand_back.Goals as goal
 
@@ -7,5 +9,5 @@ split_seat-requires g c =
     let seat = c.args.seat.now in (
       c.requires.table.at,
       search rules,
-      hands_back g.T.PartTable.content g.T.PartTable.begun c.args.words.now.key seat.id seat.me.0 c.requires.last,
+      hands-back-in-order g.T.PartTable.content g.T.PartTable.begun c.args.words.now.key seat.id seat.me.0 (hands_back g.T.PartTable.content g.T.PartTable.begun c.args.words.now.key seat.id (side_of seat).0 c.requires.last),
     )

@@ -1,4 +1,6 @@
+use Rattle.shared_rule.specs.Plays.{side_of}
 use Rattle.std.proofs.Common.{rules}
+use Rattle.shared_rule.proofs.Lemmas.Placed.{keeps-apart-in-order}
 use Rattle.shared_rule.proofs.Lemmas.Events.Seats.{keeps_apart}
 use Rattle.shared_rule.proofs.seats.keep_apart.Goals as goal
 
@@ -10,5 +12,5 @@ join_seat-requires g c =
       c.requires.other_table.at,
       c.requires.nothing_in_hand,
       search rules,
-      keeps_apart g.T.PartTable.content g.T.PartTable.begun c.args.words.now.key seat.id seat.me.0 other.id other.me.0 c.requires.one c.requires.lawful c.requires.free,
+      keeps-apart-in-order g.T.PartTable.content g.T.PartTable.begun c.args.words.now.key seat.id seat.me.0 other.id other.me.0 c.requires.one (keeps_apart g.T.PartTable.content g.T.PartTable.begun c.args.words.now.key seat.id (side_of seat).0 other.id (side_of other).0 c.requires.one c.requires.lawful c.requires.free),
     )

@@ -1,6 +1,9 @@
+use Rattle.shared_rule.specs.Seats.{ToldClosed}
+use Rattle.shared_rule.specs.Plays.{side_of}
 use Rattle.std.proofs.Common.{rules}
 use mathlib.Core.Option.{none}
 use Rattle.atomic_table.specs.Table.{step}
+use Rattle.shared_rule.proofs.Lemmas.Placed.{allowed}
 use Rattle.shared_rule.proofs.Lemmas.Events.Seats.{tells_closed}
 use Rattle.shared_rule.proofs.seats.tell_closed.Goals as goal
 
@@ -10,5 +13,7 @@ load-requires g c =
     let slots = c.args.words.now.table_id.slots in (
       c.requires.table.at,
       search rules,
-      tells_closed g.T.PartTable.content g.T.PartTable.begun c.args.words.now.key slots opener.id 0 opener.me (step slots 0 0 0 none) c.requires.opener,
+      allowed g.T.PartTable.content g.T.PartTable.begun c.args.words.now.key c.args.words.now.table_id.slots c.args.opener.now.id c.args.opener.now.me 0
+          (λ n. n) (ToldClosed (step slots 0 0 0 none) (side_of opener))
+          (tells_closed g.T.PartTable.content g.T.PartTable.begun c.args.words.now.key slots opener.id 0 (side_of opener) (step slots 0 0 0 none) c.requires.opener),
     )

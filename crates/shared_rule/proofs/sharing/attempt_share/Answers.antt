@@ -1,3 +1,9 @@
+use Rattle.shared_rule.specs.Plays.{SharedSlotsOr, unnoted}
+use Rattle.atomic_table.specs.Table.{step}
+use mathlib.Core.Option.{none}
+use prog.Atomic.{either}
+use Rattle.std.specs.Prelude.{◌==◌}
+use Rattle.shared_rule.specs.Plays.{side_of}
 use Rattle.std.proofs.Common.{rules, List, ap, subst}
 use Rattle.lock_world.specs.AccountLaw.{MayShareFastBy}
 use Rattle.shared_rule.specs.declared.history.History.{History}
@@ -5,6 +11,7 @@ use Rattle.shared_rule.specs.History.{first_account}
 use Rattle.lw_word.specs.declared.words.LwMode.TheVariants.{Shared}
 use Rattle.shared_rule.specs.Acquires.{GetsSlots}
 use Rattle.lock_world.specs.WaitLists.{fast_lock}
+use Rattle.shared_rule.proofs.Lemmas.Placed.{allowed}
 use Rattle.shared_rule.proofs.Lemmas.Taken.{attempt-known}
 use Rattle.shared_rule.proofs.Lemmas.Acquires.{shared-slots}
 use Rattle.shared_rule.proofs.Lemmas.Events.Locks.{shares_fast_at}
@@ -17,12 +24,14 @@ compare_exchange-requires g c =
     let session = c.requires.session in (
       c.requires.table.at,
       search rules,
-      shares_fast_at g.T.PartTable.content g.T.PartTable.begun c.args.words.now.key c.args.words.now.table_id.slots
-          seat.id seat.me session.history session.others session.sessions
+      allowed g.T.PartTable.content g.T.PartTable.begun c.args.words.now.key c.args.words.now.table_id.slots c.args.seat.now.id c.args.seat.now.me c.fast_word.result
+          (λ n. either (n == c.args.shown) c.args.shared n) (SharedSlotsOr g.T.PartTable.content g.G.Sizing.sizes.groups unnoted (step c.args.words.now.table_id.slots c.fast_word.result c.args.shown c.args.shared none) (side_of seat))
+          (shares_fast_at g.T.PartTable.content g.T.PartTable.begun c.args.words.now.key c.args.words.now.table_id.slots
+          seat.id (side_of seat) session.history session.others session.sessions
           c.args.owner c.requires.exists g.G.Sizing.sizes.groups c.args.shown c.args.shared (ap (λ (s : TableSizes). s.groups) c.requires.sizes) c.requires.free.0 c.requires.free.1
           (subst (λ (sessions : List (History g.row.T.Denot)). MayShareFastBy (first_account g.T.PartTable.content sessions) c.args.owner)
-          session.sessions c.requires.lawful) (attempt-known g.T.PartTable.content seat.me.0 session (fast_lock c.args.owner) c.requires.no_other_try c.requires.no_other_list)
-          c.fast_word.result (c.fast_word.ensures.index c.args.words.now.key.sessions),
+          session.sessions c.requires.lawful) (attempt-known g.T.PartTable.content (side_of seat).0 session (fast_lock c.args.owner) c.requires.no_other_try c.requires.no_other_list)
+          c.fast_word.result (c.fast_word.ensures.index c.args.words.now.key.sessions)),
     )
 
 pub returns-clause-won : goal.returns-clause-won

@@ -15,3 +15,6 @@ set_release_ok-requires-clause-no_other g c = λ owes. owes-none (todo_at c.args
 
 pub set_release_ok-requires-clause-tells_nobody : goal.set_release_ok-requires-clause-tells_nobody
 set_release_ok-requires-clause-tells_nobody g c = λ owes. owes-none (todo_at c.args.seat.now) (lock_number c.args.lock.now) c.requires.owes_no_ok owes
+
+pub set_release_ok-requires-clause-told : goal.set_release_ok-requires-clause-told
+set_release_ok-requires-clause-told g c = λ owes. owes-none (todo_at c.args.seat.now) (lock_number c.args.lock.now) c.requires.owes_no_ok owes

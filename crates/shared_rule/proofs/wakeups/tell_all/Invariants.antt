@@ -1,6 +1,6 @@
 use Rattle.std.proofs.Common.{◌≡◌, drop}
 use Rattle.shared_rule.specs.Led.{LedTo}
-use Rattle.shared_rule.specs.Plays.{account_at, todo_at}
+use Rattle.shared_rule.specs.Plays.{side_of, account_at, todo_at}
 use Rattle.shared_rule.specs.Wakeups.{all_told, all_called, MayTellAll}
 use Rattle.shared_rule.specs.Marks.{Told, CalledSleeper}
 use Rattle.shared_rule.proofs.wakeups.tell_all.Given as goal
@@ -12,7 +12,7 @@ invariant-loop-waiter g l = record {
   ends : all_told (account_at g.T.PartTable.content l.seat) (drop l.waiter-index l.taken)
       ≡ all_told (account_at g.T.PartTable.content l.fn.seat) l.taken;
   calls : all_called (todo_at l.seat) (drop l.waiter-index l.taken) ≡ all_called (todo_at l.fn.seat) l.taken;
-  shelves : l.seat.me.1 ≡ l.fn.seat.me.1;
+  shelves : (side_of l.seat).1 ≡ (side_of l.fn.seat).1;
 }
 
 abbrev pub ghosts-tell : goal.ghosts-tell

@@ -1,3 +1,4 @@
+use Rattle.shared_rule.specs.Plays.{side_of}
 use Rattle.std.proofs.Common.{◌≡◌, refl, sym, subst}
 use Rattle.shared_rule.specs.Boards.{parts_in_hand, shelves_out}
 use Rattle.shared_rule.proofs.Lemmas.Stacks.{rest-out}
@@ -11,4 +12,4 @@ pub invariant_of-self-clause-rests : goal.invariant_of-self-clause-rests
 invariant_of-self-clause-rests g c =
     let rests = c.args.self.now.rests in
     led-rests c.put_part.ensures.led refl rests.idle.free
-    (subst (λ shelves. shelves ≡ shelves_out (parts_in_hand shelves)) (sym c.put_part.ensures.shelves) (rest-out c.args.self.now.seat.me.1 rests.out)) rests
+    (subst (λ shelves. shelves ≡ shelves_out (parts_in_hand shelves)) (sym c.put_part.ensures.shelves) (rest-out (side_of c.args.self.now.seat).1 rests.out)) rests

@@ -1,3 +1,4 @@
+use Rattle.shared_rule.specs.Plays.{side_of}
 use Rattle.std.proofs.Common.{◌≡◌, refl, sym, ap, subst}
 use Rattle.shared_rule.specs.Boards.{parts_in_hand, shelves_out}
 use Rattle.shared_rule.specs.Todos.{todo_attempted}
@@ -12,4 +13,4 @@ pub invariant_of-self-clause-rests : goal.invariant_of-self-clause-rests
 invariant_of-self-clause-rests g c =
     let rests = c.args.self.now.rests in
     led-rests c.take_part.ensures.led refl (ap todo_attempted rests.idle.free)
-    (subst (λ shelves. shelves ≡ shelves_out (parts_in_hand shelves)) (sym c.take_part.ensures.shelves) (more-out c.args.part c.args.self.now.seat.me.1 rests.out)) rests
+    (subst (λ shelves. shelves ≡ shelves_out (parts_in_hand shelves)) (sym c.take_part.ensures.shelves) (more-out c.args.part (side_of c.args.self.now.seat).1 rests.out)) rests

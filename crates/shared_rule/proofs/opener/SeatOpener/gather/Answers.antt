@@ -4,7 +4,7 @@ use Rattle.shared_rule.specs.declared.history.View.{View}
 use Rattle.shared_rule.specs.Boards.{first_marks, AreFree}
 use Rattle.shared_rule.specs.History.{first_account}
 use Rattle.shared_rule.specs.Openers.{OpenerState}
-use Rattle.shared_rule.specs.Plays.{Side}
+use Rattle.shared_rule.specs.Plays.{side_of, Side}
 use Rattle.shared_rule.specs.Layout.{IsSized}
 use Rattle.shared_rule.specs.Quiet.{first_quiet}
 use Rattle.shared_rule.proofs.Lemmas.Idle.{free-with, free-lone}
@@ -15,14 +15,14 @@ pub invariant_of-self : goal.invariant_of-self
 invariant_of-self g c =
     let board = c.args.board in
     let side = ap (λ (m : Side g.row.T.Denot). m.0) c.keep_apart.ensures.side in
-    let came : c.into_seat-seat.result.1.me.0 ≡ board.seat.me.0 = ap (λ seat. seat.me.0) c.into_seat-seat.ensures.1 in
-    let its : AreFree board.seat.me.0.sessions = free-lone board.seat.me.0 board.number (first_marks board.seat.me.0.sessions) board.rests.lone board.rests.idle (ap (λ (s : Stack). s.owed) c.requires.stack) in (
+    let came : (side_of c.into_seat-seat.result.1).0 ≡ (side_of board.seat).0 = ap (λ seat. (side_of seat).0) c.into_seat-seat.ensures.1 in
+    let its : AreFree (side_of board.seat).0.sessions = free-lone (side_of board.seat).0 board.number (first_marks (side_of board.seat).0.sessions) board.rests.lone board.rests.idle (ap (λ (s : Stack). s.owed) c.requires.stack) in (
       ap (λ (view : View g.row.T.Denot). view.next) side ∙ c.self.invariant.0,
       c.self.invariant.1,
       c.self.invariant.2,
       subst (IsSized c.self.inside.sizes) (sym c.keep_apart.ensures.same_seat.table_id) c.self.invariant.3,
       subst (λ (view : View g.row.T.Denot). AreFree view.sessions) (sym side)
-          (free-with c.self.inside.seat.me.0.sessions c.into_seat-seat.result.1.me.0.sessions c.self.invariant.4
+          (free-with (side_of c.self.inside.seat).0.sessions (side_of c.into_seat-seat.result.1).0.sessions c.self.invariant.4
           (subst (λ (view : View g.row.T.Denot). AreFree view.sessions) (sym came) its)),
     )
 
@@ -30,13 +30,13 @@ pub returns-clause-gathered : goal.returns-clause-gathered
 returns-clause-gathered g c =
     let board = c.args.board in
     let had = c.self.inside.seat in
-    let last : History g.row.T.Denot = record { number = board.number; marks = first_marks board.seat.me.0.sessions } in
+    let last : History g.row.T.Denot = record { number = board.number; marks = first_marks (side_of board.seat).0.sessions } in
     let side = ap (λ (m : Side g.row.T.Denot). m.0) c.keep_apart.ensures.side in
-    let came : c.into_seat-seat.result.1.me.0 ≡ board.seat.me.0 = ap (λ seat. seat.me.0) c.into_seat-seat.ensures.1 in
+    let came : (side_of c.into_seat-seat.result.1).0 ≡ (side_of board.seat).0 = ap (λ seat. (side_of seat).0) c.into_seat-seat.ensures.1 in
     let table = c.keep_apart.ensures.same_seat.table_id in
     let closed = ap (λ (view : View g.row.T.Denot). view.closed) side in
     let gathered = ap (λ (view : View g.row.T.Denot). view.sessions) side
-    ∙ ap (λ (view : View g.row.T.Denot). had.me.0.sessions ++ view.sessions) (came ∙ board.rests.lone) in
+    ∙ ap (λ (view : View g.row.T.Denot). (side_of had).0.sessions ++ view.sessions) (came ∙ board.rests.lone) in
     record {
       last = last;
       number_ = refl;
@@ -48,5 +48,5 @@ returns-clause-gathered g c =
 
 pub keep_apart-requires-clause-free : goal.keep_apart-requires-clause-free
 keep_apart-requires-clause-free g c =
-    subst (λ seat. IsFree seat.me.0.sessions) (sym c.into_seat-seat.ensures.1)
+    subst (λ seat. IsFree (side_of seat).0.sessions) (sym c.into_seat-seat.ensures.1)
     (record { idle = c.args.board.rests.idle; wakes_nobody = ap (λ (s : Stack). s.owed) c.requires.stack })

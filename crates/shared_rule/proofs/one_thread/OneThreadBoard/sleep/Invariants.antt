@@ -1,0 +1,5 @@
+use Rattle.shared_rule.specs.Marks.{ParksWaiting}
+use Rattle.shared_rule.proofs.one_thread.OneThreadBoard.sleep.Given as goal
+
+abbrev pub ghosts-park_waiting : goal.ghosts-park_waiting
+ghosts-park_waiting g a = record { mark = ParksWaiting }
