@@ -10,15 +10,15 @@ use std::{io, thread};
 const PAUSE: u64 = 1;
 
 /// Takes `mode` on `tag` for the transaction of `connection`, and waits for it until `timeout` is over. Then
-/// the wait is given up, and the answer is `Cancelled`. Where the grant came first after all, the connection
-/// has the mode, and the answer says so.
+/// the wait is given up, and the answer is `None`. Where the grant came first after all, the connection has
+/// the mode, and the answer says so.
 pub fn take_in_time<B: Board<Part>, M: ManagerName, R: Wait + Clock>(
     rt: &R,
     connection: &mut Connection<B, M>,
     tag: Tag,
     mode: Mode,
     timeout: Duration,
-) -> Result<Acquired, Refusal> {
+) -> Result<Option<Acquired>, Refusal> {
     let begun = Instant::now(rt);
     connection
         .session

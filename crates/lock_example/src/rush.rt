@@ -5,10 +5,8 @@ ghost use Rattle.std.specs.Prelude.{◌≡◌};
 use crate::bank::{ACCOUNTS, DATABASE};
 use crate::day::SESSIONS;
 use connections::{Connection, ManagerName, Pool, Service, connect, leave, serve};
-use lock_manager::{
-    Board, Desk, Mode, OwnSession, Owner, Part, Refusal, SessionId, append_session,
-};
-use std::alloc::Global;
+use lock_manager::{Board, Desk, Mode, OwnSession, Owner, Part, Refusal, SessionId};
+use std::alloc::{AllocFailed, Global};
 use std::sync::{Mutex, Wait};
 use std::thread::Threads;
 
@@ -103,8 +101,8 @@ fn hire<B: Board<Part>, D: Desk<OwnSession<Part, B>>, M: ManagerName, R: Wait>(
 ) -> Result<(), Refusal> {
     for _ in 0..SESSIONS {
         let connection = connect(rt, pool, DATABASE)?;
-        if let Err(connection) = append_session(connections, connection) {
-            leave(rt, pool, connection);
+        if let Err(AllocFailed { value }) = connections.push(connection) {
+            leave(rt, pool, value);
             return Err(Refusal::NoMemory);
         }
     }

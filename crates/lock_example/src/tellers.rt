@@ -181,9 +181,10 @@ fn has_altered<B: Board<Part>, M: ManagerName, R: Wait + Clock>(
 ) -> bool {
     let patience = Duration::from_millis(PATIENCE);
     let answer = take_in_time(rt, connection, ACCOUNTS, Mode::AccessExclusive, patience);
-    if answer.is_ok() {
+    let has_table = matches!(answer, Ok(Some(_)));
+    if has_table {
         bank.rewrite();
     }
-    end(rt, connection, answer.is_ok());
-    answer.is_ok()
+    end(rt, connection, has_table);
+    has_table
 }

@@ -21,3 +21,5 @@ pub mod Reuse
 pub mod Pools
 pub mod ListAnswers
 pub mod ListMoments
+pub mod Promises
+pub mod Calls

@@ -1,8 +1,8 @@
-use Rattle.std.specs.Prelude.{◌≡◌, ◌≤◌, ℕ, List, []}
+use Rattle.std.specs.Prelude.{◌≡◌, ◌≤◌, ℕ, List, [], ◌∷◌}
 use Rattle.lock_world.specs.Account.{Account}
 use Rattle.lock_world.specs.AccountSteps.{account_storing}
 use Rattle.shared_rule.specs.Boards.{Seated, Stack}
-use Rattle.shared_rule.specs.Quiet.{Quiet}
+use Rattle.shared_rule.specs.Quiet.{Quiet, StoresDatabase}
 use Rattle.local_locks.specs.declared.ends.End.TheVariants.{Close}
 use Rattle.local_locks.specs.Owned.{ended_by}
 use Rattle.lock_manager.specs.declared.sessions.Own.{Own}
@@ -24,8 +24,10 @@ pub record ServesNext {B : Type 0} (seat : B → Seated) (view : B → Account) 
   pub last : Account
   pub released : ReleasesAll (seat session.board).groups (seat session.board).number (view session.board) session.uses
       (ended_by Close session.owned.entries) last next.uses
+  pub quiet_last : List Quiet
   pub quiet_ : QuietOfReleases (seat session.board).groups (seat session.board).number (view session.board)
-      session.uses (ended_by Close session.owned.entries) last next.uses (quiet session.board) (quiet next.board)
+      session.uses (ended_by Close session.owned.entries) last next.uses (quiet session.board) quiet_last
+  pub quiet_stored : quiet next.board ≡ StoresDatabase database ∷ quiet_last
   pub stored : view next.board ≡ account_storing last database
   pub seat_ : seat next.board ≡ seat session.board
   pub database_ : next.database ≡ database

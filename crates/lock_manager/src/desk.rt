@@ -1,6 +1,7 @@
 //! Desks, which open, count and close the sessions of a manager for a program that is written over any board.
 
-ghost use Rattle.std.specs.Prelude.{◌≡◌, ◌⊎◌, ◌↔◌, ◌<◌, ◌+◌, ◌-◌, List, [], ◌∷◌, All, length, map, IsErrOf, IsOkUnless, IfOk, IfErr, OnOk, OnErr};
+ghost use Rattle.std.specs.Prelude.{◌≡◌, ◌≢◌, ◌⊎◌, ◌↔◌, ◌<◌, ◌+◌, ◌-◌, List, [], ◌∷◌, All, length, map, IsErrOf, IsOkUnless, IfOk, IfErr, OnOk, OnErr};
+ghost use Rattle.shared_rule.specs.Plays.{side_of};
 ghost use Rattle.local_locks.specs.Owned.{ended_by};
 ghost use Rattle.lock_world.specs.Account.{Account};
 ghost use Rattle.fast_path.specs.declared.use_counts.UseCounts.{UseCounts};
@@ -9,7 +10,7 @@ ghost use Rattle.shared_rule.specs.Boards.{parts_in_hand};
 ghost use Rattle.shared_rule.specs.declared.history.History.{History};
 ghost use Rattle.shared_rule.specs.History.{first_account};
 ghost use Rattle.shared_rule.specs.Owed.{first_owed};
-ghost use Rattle.shared_rule.specs.Quiet.{first_quiet, quiet_told};
+ghost use Rattle.shared_rule.specs.Quiet.{StoresDatabase, first_quiet, quiet_told};
 ghost use Rattle.lock_manager.specs.Desks.{opener_at, session_at, shown};
 ghost use Rattle.lock_manager.specs.Keeper.{PartView, content_of};
 ghost use Rattle.lock_manager.specs.Managers.{IsOpenerOf, IsOpened, HasClosed};
@@ -89,17 +90,19 @@ pub trait Desk<S> {
         ensures opened { IfOk result (λ session. IsOpened seat account stack
             (opener_at (manager self.old) (issued self.old) (live self.old) (closed self.old)) (manager self.old)
             database (session_at database_of uses owned session)) }
-        ensures quiet { IfOk result (λ session. quiet session ≡ []) }
+        ensures quiet { IfOk result (λ session. quiet session ≡ StoresDatabase database ∷ []) }
         ensures none_closed { closed self.new ≡ closed self.old };
 
     /// How many sessions of the manager are open.
     fn live(&self) -> u32
         ensures { result ≡ live self.now };
 
-    /// Has `session` and `other` meet (`Session::meet`), which shows that no hold of the one conflicts with a
-    /// hold of the other. Both sessions keep what they have, and make no step; `other` comes back.
+    /// Has `session` and `other` meet (`Session::meet`), which shows that their numbers differ, and that no
+    /// hold of the one conflicts with a hold of the other. Both sessions keep what they have, and make no
+    /// step; `other` comes back.
     fn meet(&self, session: &mut S, other: S) -> S
         requires same_manager { (seat other).table ≡ (seat session.old).table }
+        ensures apart { (seat session.old).number ≢ (seat other).number }
         ensures told { DontConflict (entries session.old) (entries other) }
         ensures kept { seat session.new ≡ seat session.old }
         ensures its_kept { seat result ≡ seat other }
@@ -194,12 +197,12 @@ impl<'a> Desk<Session<'a>> for ManagerDesk<'a> {
       table = session.board.table.now.table_id;
     } };
 
-    ghost account = { λ session. first_account content_of session.board.seat.me.0.sessions };
+    ghost account = { λ session. first_account content_of (side_of session.board.seat).0.sessions };
 
     ghost stack = { λ session.
-        record { parts = parts_in_hand session.board.seat.me.1; owed = first_owed session.board.seat.me.0.sessions } };
+        record { parts = parts_in_hand (side_of session.board.seat).1; owed = first_owed (side_of session.board.seat).0.sessions } };
 
-    ghost quiet = { λ session. first_quiet session.board.seat.me.0.sessions };
+    ghost quiet = { λ session. first_quiet (side_of session.board.seat).0.sessions };
 
     ghost database_of = { λ session. session.database };
 
@@ -220,6 +223,8 @@ impl<'a> Desk<Session<'a>> for ManagerDesk<'a> {
     fn meet(&self, session: &mut Session<'a>, other: Session<'a>) -> Session<'a>
         requires same_manager { let B = ⟦<SeatBoard<'a, Part> as Board<Part>>⟧ in
             (B.seat other.board).table ≡ (B.seat session.old.board).table }
+        ensures apart { let B = ⟦<SeatBoard<'a, Part> as Board<Part>>⟧ in
+            (B.seat session.old.board).number ≢ (B.seat other.entry.board).number }
         ensures told { DontConflict session.old.owned.entries other.entry.owned.entries }
         ensures kept { let B = ⟦<SeatBoard<'a, Part> as Board<Part>>⟧ in
             B.seat session.new.board ≡ B.seat session.old.board }

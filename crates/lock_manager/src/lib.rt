@@ -4,6 +4,7 @@
 mod any_board;
 mod audit;
 mod blocked;
+mod calls;
 mod config;
 mod crews;
 mod desk;
@@ -28,6 +29,7 @@ mod waiting_sessions;
 
 // What an embedder calls, and what it is answered.
 pub use blocked::Blocked;
+pub use calls::{Answer, Call};
 pub use config::{Config, MOST_GROUPS, MOST_SESSIONS, USUAL_SESSIONS};
 pub use listing::Listing;
 pub use local_locks::{Acquired, MOST_LEVELS, MOST_LOCAL, Unlocked};

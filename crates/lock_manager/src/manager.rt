@@ -4,7 +4,7 @@ ghost use Rattle.std.specs.Prelude.{◌≡◌, ◌<◌, ◌+◌, ◌-◌, ◌↔
 ghost use Rattle.shared_rule.specs.Seats.{MayCloseBy};
 ghost use Rattle.shared_rule.specs.Boards.{nothing_due};
 ghost use Rattle.shared_rule.specs.declared.history.History.{History};
-ghost use Rattle.shared_rule.specs.Quiet.{quiet_told};
+ghost use Rattle.shared_rule.specs.Quiet.{StoresDatabase, quiet_told};
 ghost use Rattle.lock_manager.specs.Keeper.{PartView};
 ghost use Rattle.lock_manager.specs.Managers.{IsNew, IsOpenerOf, IsOpened, TakesBack, is_in_range, is_in_server_range};
 
@@ -186,7 +186,7 @@ impl Opener {
         ensures ok { let B = ⟦<SeatBoard<'a, Part> as Board<Part>>⟧ in
             IfOk result (λ session. IsOpened B.seat B.view B.stack self.old manager.now database session) }
         ensures quiet { let B = ⟦<SeatBoard<'a, Part> as Board<Part>>⟧ in
-            IfOk result (λ session. B.quiet session.board ≡ []) }
+            IfOk result (λ session. B.quiet session.board ≡ StoresDatabase database ∷ []) }
         ensures counted { OnOk result (self.new ≡
             record (self.old) { issued = self.old.issued + 1; live = self.old.live + 1 }) }
         ensures no_more { IsErrOf result Refusal.NoMoreSessions ↔ (self.old.issued ≡ self.old.limit) }

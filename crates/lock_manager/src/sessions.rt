@@ -17,11 +17,12 @@ ghost use Rattle.shared_rule.specs.History.{blank_account};
 ghost use Rattle.shared_rule.specs.Boards.{nothing_due};
 ghost use Rattle.fast_path.specs.Slots.{count_in};
 ghost use Rattle.lock_manager.specs.Sessions.{IsSame, IsUnchanged, DontConflict};
-ghost use Rattle.lock_manager.specs.Quiet.{QuietOfAcquire, QuietOfAcquireBySlot, QuietOfReleases, quiet_releasing};
+ghost use Rattle.lock_manager.specs.Promises.{HasAsked};
+ghost use Rattle.lock_manager.specs.Quiet.{QuietOfAcquireBySlot, QuietOfReleases, quiet_releasing};
 ghost use Rattle.lock_manager.specs.Managers.{HasClosed};
 ghost use Rattle.wait_queue.specs.Decide.{IsAfterRoom};
 ghost use Rattle.lock_manager.specs.Requests.{HadRoom};
-ghost use Rattle.lock_manager.specs.Acquires.{AnswersByOwned, HasEntryRoom, IsOwnAnswer, IsOwnAnswerBySlot, IsRefusedForMemory, Acquires, AcquiresBySlot};
+ghost use Rattle.lock_manager.specs.Acquires.{AnswersByOwned, HasEntryRoom, IsOwnAnswerBySlot, Acquires, AcquiresBySlot};
 ghost use Rattle.lock_manager.specs.Releases.{Releases, ReleasesAll};
 ghost use Rattle.shared_rule.specs.Seats.{MayCloseBy};
 ghost use Rattle.modes_core.specs.Sessions.{most_sessions};
@@ -215,25 +216,14 @@ impl<T: PartTable, B: Board<T>> OwnSession<T, B> {
         mode: Mode,
         owner: Owner,
     ) -> Result<Acquired, Refusal>
-        // What the call answers.
-        ensures answers { AnswersByOwned self.old.owned tag mode owner Acquired.AlreadyHeld true result }
+        ensures asked { HasAsked B.seat B.view B.stack B.quiet Kind.Conditional self.old tag mode owner
+            Acquired.AlreadyHeld result self.new.board self.new.uses self.new.owned }
         ensures room_first { IfErr result (IsAfterRoom (HadRoom T.content T.prepared (B.seat self.old.board).number
             tag mode (B.view self.new.board).trace)) }
-        ensures entry_room_first { IfErr result (HasEntryRoom self.new.owned) }
         ensures steps { Acquires (B.seat self.old.board) self.old.owned (B.view self.old.board) self.old.uses tag mode
             result (B.view self.new.board) self.new.uses }
-        ensures quiet { QuietOfAcquire (B.seat self.old.board) (B.view self.old.board) self.old.uses tag mode
-            (B.quiet self.old.board) (B.quiet self.new.board) }
-        ensures untouched { IsOwnAnswer Acquired.AlreadyHeld result → self.new.board ≡ self.old.board }
-        ensures no_memory { IfErr result (λ refusal. refusal ≡ Refusal.NoMemory → IsRefusedForMemory B.view
-            Kind.Conditional (B.seat self.old.board) self.old.owned self.old.uses tag mode self.old.board self.new.board
-            self.new.uses) }
-
-        // What holds after the call.
         ensures entries { OnOk result (self.new.owned.entries
             ≡ with_one_more self.old.owned.entries tag mode owner) }
-        ensures same_entries { OnErr result (self.new.owned.entries ≡ self.old.owned.entries) }
-        ensures levels { self.new.owned.outer ≡ self.old.owned.outer }
         ensures same { IsSame B.seat B.view B.stack self.old self.new }
     {
         match acquire(
@@ -373,11 +363,14 @@ impl<T: PartTable, B: Board<T>> OwnSession<T, B> {
 }
 
 impl<'a> OwnSession<Part, SeatBoard<'a, Part>> {
-    /// Has the session meet `other`, a session of the same manager, which comes back: no hold of the one
-    /// conflicts with a hold of the other on an object. Both sessions are as before.
+    /// Has the session meet `other`, a session of the same manager, which comes back: they have different
+    /// numbers, and no hold of the one conflicts with a hold of the other on an object. Both sessions are as
+    /// before.
     pub fn meet(&mut self, other: Session<'a>) -> Session<'a>
         requires same_manager { let B = ⟦<SeatBoard<'a, Part> as Board<Part>>⟧ in
             (B.seat other.board).table ≡ (B.seat self.old.board).table }
+        ensures apart { let B = ⟦<SeatBoard<'a, Part> as Board<Part>>⟧ in
+            (B.seat self.old.board).number ≢ (B.seat other.entry.board).number }
         ensures told { DontConflict self.old.owned.entries other.entry.owned.entries }
         ensures unchanged { let B = ⟦<SeatBoard<'a, Part> as Board<Part>>⟧ in
             IsUnchanged B.seat B.view B.stack B.quiet self.old self.new }

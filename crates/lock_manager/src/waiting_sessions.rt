@@ -7,8 +7,8 @@ ghost use Rattle.lock_manager.specs.declared.requests.Begun.TheVariants as begun
 ghost use Rattle.lock_manager.specs.Sessions.{IsSame};
 ghost use Rattle.wait_queue.specs.Decide.{IsAfterRoom};
 ghost use Rattle.lock_manager.specs.Requests.{HadRoom};
-ghost use Rattle.lock_manager.specs.Acquires.{AnswersByOwned, HasEntryRoom, IsOwnAnswer, IsRefusedForMemory, entries_begun, Begins};
-ghost use Rattle.lock_manager.specs.Quiet.{QuietOfAcquire};
+ghost use Rattle.lock_manager.specs.Acquires.{entries_begun, Begins};
+ghost use Rattle.lock_manager.specs.Promises.{HasAsked};
 ghost use Rattle.lock_manager.specs.Waiting.{AsksOneOf, LooksForWaiters, Polls, Cancels, Waits};
 ghost use Rattle.lock_manager.specs.WaitingSessions.{answer_started, board_started, uses_started, owned_started};
 ghost use Rattle.lock_manager.specs.WaitingSessions.{UnlessQueued, IfQueued};
@@ -141,27 +141,16 @@ impl<T: PartTable, B: Board<T>> OwnSession<T, B> {
         mode: Mode,
         owner: Owner,
     ) -> Started<Self, OwnWaiting<T, B>>
-        // What the call answers.
-        ensures answers { AnswersByOwned self.owned tag mode owner begun.AlreadyHeld true (answer_started result) }
+        ensures asked { HasAsked B.seat B.view B.stack B.quiet Kind.Waiting self tag mode owner
+            begun.AlreadyHeld (answer_started result) (board_started result) (uses_started result)
+            (owned_started result) }
         ensures room_first { IfErr (answer_started result)
             (IsAfterRoom (HadRoom T.content T.prepared (B.seat self.board).number tag mode
             (B.view (board_started result)).trace)) }
-        ensures entry_room_first { IfErr (answer_started result) (HasEntryRoom (owned_started result)) }
         ensures steps { Begins Kind.Waiting (B.seat self.board) self.owned (B.view self.board) self.uses tag mode
             (answer_started result) (B.view (board_started result)) (uses_started result) }
-        ensures quiet { QuietOfAcquire (B.seat self.board) (B.view self.board) self.uses tag mode
-            (B.quiet self.board) (B.quiet (board_started result)) }
-        ensures untouched { IsOwnAnswer begun.AlreadyHeld (answer_started result) → board_started result ≡ self.board }
-        ensures no_memory { IfErr (answer_started result) (λ refusal. refusal ≡ Refusal.NoMemory → IsRefusedForMemory B.view
-            Kind.Waiting (B.seat self.board) self.owned self.uses tag mode self.board (board_started result)
-            (uses_started result)) }
-
-        // What holds after the call.
         ensures entries { IfOk (answer_started result) (λ answer. (owned_started result).entries
             ≡ entries_begun answer self.owned.entries tag mode owner) }
-        ensures same_entries { OnErr (answer_started result)
-            ((owned_started result).entries ≡ self.owned.entries) }
-        ensures levels { (owned_started result).outer ≡ self.owned.outer }
         ensures same { UnlessQueued result (λ session. IsSame B.seat B.view B.stack self session) }
         ensures waiting { IfQueued result (λ waiting.
             HasBegun B.seat B.view B.stack self tag mode owner waiting) }
@@ -190,28 +179,16 @@ impl<T: PartTable, B: Board<T>> OwnSession<T, B> {
     /// `dontWait`): `start`, and `wait` where that queued the request. Refused where one of these two is;
     /// after a refusal the wait is over, and the session holds what it held.
     pub fn lock<R: Wait>(self, rt: &R, tag: Tag, mode: Mode, owner: Owner) -> Locked<Self>
-        // What the call answers.
-        ensures answers { AnswersByOwned self.owned tag mode owner Acquired.AlreadyHeld true (answer_locked result) }
+        ensures asked { HasAsked B.seat B.view B.stack B.quiet Kind.Waiting self tag mode owner
+            Acquired.AlreadyHeld (answer_locked result) (session_locked result).board
+            (session_locked result).uses (session_locked result).owned }
         ensures room_first { IfErr (answer_locked result)
             (IsAfterRoom (HadRoom T.content T.prepared (B.seat self.board).number tag mode
             (B.view (session_locked result).board).trace)) }
-        ensures entry_room_first { IfErr (answer_locked result) (HasEntryRoom (session_locked result).owned) }
         ensures steps { Locks (B.seat self.board) self.owned (B.view self.board) self.uses tag mode
             (answer_locked result) (B.view (session_locked result).board) (session_locked result).uses }
-        ensures quiet { QuietOfAcquire (B.seat self.board) (B.view self.board) self.uses tag mode
-            (B.quiet self.board) (B.quiet (session_locked result).board) }
-        ensures untouched { IsOwnAnswer Acquired.AlreadyHeld (answer_locked result) →
-            (session_locked result).board ≡ self.board }
-        ensures no_memory { IfErr (answer_locked result) (λ refusal. refusal ≡ Refusal.NoMemory → IsRefusedForMemory B.view
-            Kind.Waiting (B.seat self.board) self.owned self.uses tag mode self.board (session_locked result).board
-            (session_locked result).uses) }
-
-        // What holds after the call.
         ensures entries { OnOk (answer_locked result) ((session_locked result).owned.entries
             ≡ with_one_more self.owned.entries tag mode owner) }
-        ensures same_entries { OnErr (answer_locked result)
-            ((session_locked result).owned.entries ≡ self.owned.entries) }
-        ensures levels { (session_locked result).owned.outer ≡ self.owned.outer }
         ensures same { IsSame B.seat B.view B.stack self (session_locked result) }
     {
         match self.start(rt, tag, mode, owner) {
@@ -235,24 +212,14 @@ impl<T: PartTable, B: Board<T>> OwnSession<T, B> {
         mode: Mode,
         owner: Owner,
     ) -> Result<Acquired, Refusal>
-        // What the call answers.
-        ensures answers { AnswersByOwned self.old.owned tag mode owner Acquired.AlreadyHeld true result }
+        ensures asked { HasAsked B.seat B.view B.stack B.quiet Kind.Waiting self.old tag mode owner
+            Acquired.AlreadyHeld result self.new.board self.new.uses self.new.owned }
         ensures room_first { IfErr result (IsAfterRoom (HadRoom T.content T.prepared (B.seat self.old.board).number
             tag mode (B.view self.new.board).trace)) }
-        ensures entry_room_first { IfErr result (HasEntryRoom self.new.owned) }
         ensures steps { Locks (B.seat self.old.board) self.old.owned (B.view self.old.board) self.old.uses tag mode
             result (B.view self.new.board) self.new.uses }
-        ensures quiet { QuietOfAcquire (B.seat self.old.board) (B.view self.old.board) self.old.uses tag mode
-            (B.quiet self.old.board) (B.quiet self.new.board) }
-        ensures untouched { IsOwnAnswer Acquired.AlreadyHeld result → self.new.board ≡ self.old.board }
-        ensures no_memory { IfErr result (λ refusal. refusal ≡ Refusal.NoMemory → IsRefusedForMemory B.view Kind.Waiting
-            (B.seat self.old.board) self.old.owned self.old.uses tag mode self.old.board self.new.board self.new.uses) }
-
-        // What holds after the call.
         ensures entries { OnOk result (self.new.owned.entries
             ≡ with_one_more self.old.owned.entries tag mode owner) }
-        ensures same_entries { OnErr result (self.new.owned.entries ≡ self.old.owned.entries) }
-        ensures levels { self.new.owned.outer ≡ self.old.owned.outer }
         ensures same { IsSame B.seat B.view B.stack self.old self.new }
     {
         waiting::lock(rt, &mut self.board, &mut self.own, tag, mode, owner)

@@ -16,7 +16,7 @@ use Rattle.shared_rule.specs.declared.history.Mark.TheVariants.{PutPart, MarkedG
 use Rattle.shared_rule.specs.declared.history.WordMark.{WordMark}
 use Rattle.shared_rule.specs.declared.history.WordMark.TheVariants as words
 use Rattle.shared_rule.specs.History.{noted, noted_words, told, account_granting_by, account_cleared, account_left, in_hand}
-use Rattle.shared_rule.specs.Tells.{LooksOnly, at_list, at_lock, calls_waiter, calls_sleeper}
+use Rattle.shared_rule.specs.Tells.{LooksOnly, at_list, at_lock, calls_waiter, calls_sleeper, at_wait, at_sleep}
 use Rattle.lock_manager.specs.ListMoments.{ComesToOwn, GivesUp}
 
 -- By which marks of its history a session comes to own a mode on an object, and gives one up.
@@ -125,9 +125,11 @@ module _ {T : Type 0} (content : T → Content) (number : ℕ) (a : Account) (t 
   -- A look or a call leaves own holds.
   pub looks-own : (mark : Mark T) → LooksOnly mark → (noted content number a mark).own ≡ a.own
   looks-own mark (at_list lock is) = ap (λ its. (noted content number a its).own) is
-  looks-own mark (at_lock lock is) = ap (λ its. (noted content number a its).own) is
+  looks-own mark (at_lock lock shown is) = ap (λ its. (noted content number a its).own) is
   looks-own mark (calls_waiter other is) = ap (λ its. (noted content number a its).own) is
   looks-own mark (calls_sleeper other is) = ap (λ its. (noted content number a its).own) is
+  looks-own mark (at_wait shown is) = ap (λ its. (noted content number a its).own) is
+  looks-own mark (at_sleep shown is) = ap (λ its. (noted content number a its).own) is
 
 -- What a history's account has, and had not before these marks, it has from one of them on.
 pub at_mark : {T : Type 0} (content : T → Content) (number : ℕ) (read : Account → Bool) (earlier between : List (Mark T))

@@ -1,8 +1,9 @@
-use Rattle.std.proofs.Common.{◌≡◌, ℕ, ◌≤◌, ◌<◌, ◌+◌, List, [], ◌∷◌, ◌++◌, take, drop, length, get_or, sym, ap, ◌∙◌}
+use Rattle.std.proofs.Common.{◌≡◌, ℕ, ◌≤◌, ◌<◌, ◌+◌, true, ◌||◌, List, [], ◌∷◌, ◌++◌, take, drop, length, get_or, refl, sym, ap, ◌∙◌}
+use Rattle.std.proofs.lemmas.Bool.{eq-eqb}
 use Rattle.std.proofs.lemmas.List.{take_more, take_all, drop_more, drop_all, map-append}
 use Rattle.modes_core.specs.declared.modes.Mode.{Mode}
 use Rattle.shared_rule.specs.Boards.{Stack, stack_owing, stack_waking}
-use Rattle.shared_rule.specs.History.{sessions_told}
+use Rattle.shared_rule.specs.History.{is_among, sessions_told}
 use Rattle.shared_rule.specs.Owed.{owing, waking}
 use Rattle.shared_rule.proofs.Lemmas.Stacks.{with_owed, waking-first}
 
@@ -45,6 +46,18 @@ woken-next s t u items i told within is so_far woke =
     ∙ ap (λ (x : Stack). stack_waking x told.0) so_far
     ∙ ap (λ (its : List (ℕ × Mode)). with_owed s (waking (sessions_told its) told.0)) next
     ∙ ap (with_owed s) (waking-first told.0 (sessions_told (drop (i + 1) items)))
+
+-- each of one whom it owes it,
+pub woken-owed :
+    (s t : Stack) (items : List (ℕ × Mode)) (i : ℕ) (told : ℕ × Mode) → i < length items → told ≡ get_or items i told
+    → t ≡ with_owed s (sessions_told (drop i items)) → is_among t.owed told.0 ≡ true
+woken-owed s t items i told within is so_far =
+    let rest = drop (i + 1) items in
+    let next : drop i items ≡ told ∷ rest =
+    drop_more items i told within ∙ ap (λ (its : ℕ × Mode). its ∷ rest) (sym is) in
+    ap (λ (x : Stack). is_among x.owed told.0) so_far
+    ∙ ap (λ (its : List (ℕ × Mode)). is_among (sessions_told its) told.0) next
+    ∙ ap (λ b. b || is_among (sessions_told rest) told.0) (eq-eqb told.0 told.0 refl)
 
 -- until it owes nobody one.
 pub woken-all :

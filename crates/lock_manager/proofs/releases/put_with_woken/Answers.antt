@@ -1,7 +1,7 @@
 use Rattle.std.proofs.Common.{◌<◌, refl, sym, ap, ◌∙◌, subst, arith}
 use Rattle.lock_world.specs.Happens.Partitions.{WaitIsOver}
 use Rattle.shared_rule.specs.Boards.{Seated, Stack, stack_putting}
-use Rattle.lock_manager.proofs.Lemmas.Releases.Owed.{owed-none, owed-next, owed-all, woken-next, woken-all}
+use Rattle.lock_manager.proofs.Lemmas.Releases.Owed.{owed-none, owed-next, owed-all, woken-next, woken-owed, woken-all}
 use Rattle.lock_manager.proofs.Lemmas.Releases.Marks.{telling-begins, may_mark-at, marking-next_at, told-exists, all_marked, may_put_marked, told-put, wait-same}
 use Rattle.lock_manager.proofs.releases.put_with_woken.Goals as goal
 
@@ -123,4 +123,6 @@ wake-requires g c =
           (told-exists (g.B.Board.seat c.args.board.now) telling.from c.args.part c.args.done.now (g.T.PartTable.woken c.args.content)
           (g.T.PartTable.content c.args.content) telling.wakens c.woken-woken.result.now c.loop-session.session-index
           c.loop-session-item.result c.woken-woken.ensures c.loop-session-test.true c.loop-session-item.is);
+      owed = woken-owed (g.B.Board.stack c.args.board.now) (g.B.Board.stack c.loop-session.board) c.woken-woken.result.now
+          c.loop-session.session-index c.loop-session-item.result c.loop-session-test.true c.loop-session-item.is c.loop-session.invariant.stack;
     }

@@ -24,9 +24,9 @@ returns-clause-next g c =
     record {
       last = view c.end_all.new.board;
       released = c.end_all.ensures.steps;
-      quiet_ = subst (λ (quiet : List Quiet). QuietOfReleases (g.B.Board.seat c.args.board.now).groups (g.B.Board.seat c.args.board.now).number
-          (view c.args.board.now) c.args.own.now.uses (ended_by Close c.args.own.now.locals.entries) (view c.end_all.new.board) c.end_all.new.own.uses
-          (g.B.Board.quiet c.args.board.now) quiet) (sym c.store_database.ensures.quiet) c.end_all.ensures.quiet;
+      quiet_last = g.B.Board.quiet c.end_all.new.board;
+      quiet_ = c.end_all.ensures.quiet;
+      quiet_stored = c.store_database.ensures.quiet;
       stored = c.store_database.ensures.view;
       seat_ = seat;
       database_ = refl;

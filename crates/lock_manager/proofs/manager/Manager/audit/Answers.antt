@@ -1,4 +1,4 @@
-use Rattle.std.proofs.Common.{reverse, ap, ◌∙◌}
+use Rattle.std.proofs.Common.{ap, ◌∙◌}
 use Rattle.std.specs.Prelude.{Ok, Err}
 use Rattle.lock_manager.specs.Managers.{OpenerView}
 use Rattle.lock_manager.proofs.Lemmas.Audits.Lists.{all-from, all-to}

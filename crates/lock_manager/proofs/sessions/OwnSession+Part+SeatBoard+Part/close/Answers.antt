@@ -1,3 +1,4 @@
+use Rattle.shared_rule.specs.Plays.{side_of}
 use Rattle.std.proofs.Common.{sym, subst}
 use Rattle.local_locks.specs.declared.ends.End.TheVariants.{Close}
 use Rattle.local_locks.specs.Owned.{ended_by}
@@ -12,7 +13,7 @@ use Rattle.lock_manager.proofs.sessions.OwnSession+Part+SeatBoard+Part.close.Goa
 pub returns : goal.returns
 returns g c =
     let before = c.args.self in
-    let last = first_account content_of c.end-board.result.seat.me.0.sessions in
+    let last = first_account content_of (side_of c.end-board.result.seat).0.sessions in
     let quiet = c.end-board.ensures.quiet in
     record {
       closed = record {
@@ -24,8 +25,8 @@ returns g c =
       quiet = λ history others is. (
         last,
         quiet.0,
-        subst (QuietOfReleases before.board.sizes.groups before.board.number (first_account content_of before.board.seat.me.0.sessions) before.uses
-            (ended_by Close before.owned.entries) last quiet.0 (first_quiet before.board.seat.me.0.sessions))
+        subst (QuietOfReleases before.board.sizes.groups before.board.number (first_account content_of (side_of before.board.seat).0.sessions) before.uses
+            (ended_by Close before.owned.entries) last quiet.0 (first_quiet (side_of before.board.seat).0.sessions))
             (sym (c.take_back.ensures.quiet history others is)) quiet.1,
       );
     }
