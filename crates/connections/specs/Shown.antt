@@ -1,4 +1,4 @@
-use Rattle.std.specs.Prelude.{◌≡◌, ℕ, List}
+use Rattle.std.specs.Prelude.{◌≡◌, ℕ, ◌+◌, ◌<◌, List, length, slice_index_or}
 use Rattle.local_locks.specs.declared.records.Entry.{Entry}
 use Rattle.shared_rule.specs.Boards.{Seated}
 use Rattle.lock_manager.specs.Pools.{PoolView}
@@ -17,3 +17,7 @@ module _ {B : Type 0} where
   -- a pool with these sessions that nobody has, and with these lives
   abbrev pub pool_of : List (SessionView B) → List ℕ → PoolView B
   pool_of free lives = record { free = free; lives = lives }
+
+-- The numbers of a list follow on one another from this one on.
+abbrev pub AreNumberedFrom : {S : Type 0} → (S → ℕ) → ℕ → List S → Type 0
+AreNumberedFrom {S} number first list = (k : ℕ) (other : S) → k < length list → number (slice_index_or list k other) ≡ first + k

@@ -1,20 +1,20 @@
 //! A hammer: sessions that lock and unlock in threads of their own, and what is counted when they have ended.
 
-ghost use Rattle.std.specs.Prelude.{◌≡◌, ◌≤◌, length};
-ghost use Rattle.lock_manager.specs.Crews.{AreOf, SeatsAre};
+ghost use Rattle.std.specs.Prelude.{◌≡◌, ◌≤◌, length, IfSome, IsSome, IsSomeAnd};
+ghost use Rattle.connections.specs.Managers.{manager_in};
+ghost use Rattle.connections.specs.Shown.{ShowsSessions};
 ghost use Rattle.lock_hammer.specs.Sizes.{IsPlayable};
 ghost use Rattle.modes_core.specs.Sessions.{usual_sessions};
 
 use crate::progress::{Progress, Unwatched};
 use crate::size::Hammer;
 use crate::workers::{DATABASE, Gate, Reports, Task, all_work};
-use lock_manager::{
-    Audit, Board, Config, Desk, Final, Manager, ManagerDesk, OwnSession, Part, close_sessions,
-    open_sessions,
-};
+use connections::{Connection, DeskOf, ManagerName};
+use lock_manager::{Audit, Board, Config, Desk, Final, Manager, ManagerDesk, OwnSession, Part};
 use lock_script::Fault;
 use std::alloc::Global;
 use std::io::Write;
+use std::marker::Brand;
 use std::sync::Wait;
 use std::thread::Threads;
 
@@ -62,21 +62,21 @@ pub fn run_watched_hammer<
     let Ok((manager, opener)) = Manager::new(alloc, config) else {
         return Err(Fault::NoMemory);
     };
-    let mut desk = ManagerDesk::new(&manager, opener);
+    let mut slot = Some(ManagerDesk::new(&manager, opener));
     let reports = Reports::new(progress);
-    let hammered = hammer(rt, alloc, gate, &reports, &mut desk, &mut writer, size);
+    let hammered = hammer_over(rt, alloc, gate, &reports, &mut slot, &mut writer, size);
+    let Some(desk) = slot else { unreachable!() };
     let opener = desk.into_opener();
     let last = manager.finish(opener);
     hammered?;
     print_final(&mut writer, last)
 }
 
-/// Opens the sessions of a hammer of `size` at `desk`, has them play, each once `gate` lets it pass, and
-/// closes them. The workers report to `reports`, and `writer` gets what an audit counts before the close.
-/// Works over any board of the shared table.
-fn hammer<
+/// Has a hammer of `size` play over the desk in `slot`, as `hammer` does. This function picks the manager
+/// that the types of connections name.
+fn hammer_over<
     B: Board<Part> + Send,
-    D: Desk<OwnSession<Part, B>>,
+    D: Desk<OwnSession<Part, B>> + Drop,
     G: Gate + Sync,
     H: Threads + Wait + Sync,
     P: Progress + Sync,
@@ -86,56 +86,121 @@ fn hammer<
     alloc: Global,
     gate: &G,
     reports: &Reports<P>,
-    desk: &mut D,
+    slot: &mut Option<D>,
     writer: &mut W,
     size: Hammer,
 ) -> Result<(), Fault>
-    requires seats { SeatsAre B.seat D.seat }
-    requires none_live { D.live desk.old ≡ 0 }
-    ensures manager { D.manager desk.new ≡ D.manager desk.old }
-    ensures none_live { D.live desk.new ≡ 0 }
+    requires shows { ShowsSessions B.seat D.seat D.entries D.database_of }
+    requires there { IsSome slot.old }
+    requires none_live { IfSome slot.old (λ desk. D.live desk ≡ 0) }
+    ensures is { IsSomeAnd slot.new (λ desk. D.manager desk ≡ manager_in D.manager slot.old) }
+    ensures none_live { IfSome slot.new (λ desk. D.live desk ≡ 0) }
 {
-    let mut crew = Vec::new(alloc);
-    let opened = open_sessions(rt, desk, &mut crew, DATABASE, size.sessions);
-    let hammered = match opened {
-        Ok(()) => play(rt, gate, reports, desk, writer, &mut crew, size.rounds),
-        Err(_) => Err(Fault::NoMemory),
-    };
-    close_sessions(rt, desk, crew);
-    hammered
+    hammer_at::<B, D, Brand, G, H, P, W>(rt, alloc, gate, reports, slot, writer, size)
 }
 
-/// Has the sessions of `crew` play `rounds` rounds, each once `gate` lets it pass, and take their last locks,
-/// and has `desk` count what they have. The workers report to `reports`, and `writer` gets the counts.
-fn play<
+/// Has a hammer of `size` play over the desk in `slot`, of the manager that `M` names, as `hammer` does.
+fn hammer_at<
     B: Board<Part> + Send,
-    D: Desk<OwnSession<Part, B>>,
+    D: Desk<OwnSession<Part, B>> + Drop,
+    M: ManagerName + Send,
     G: Gate + Sync,
     H: Threads + Wait + Sync,
     P: Progress + Sync,
     W: Write,
 >(
     rt: &H,
+    alloc: Global,
     gate: &G,
     reports: &Reports<P>,
-    desk: &mut D,
+    slot: &mut Option<D>,
     writer: &mut W,
-    crew: &mut Vec<OwnSession<Part, B>>,
+    size: Hammer,
+) -> Result<(), Fault>
+    requires shows { ShowsSessions B.seat D.seat D.entries D.database_of }
+    requires is { IsSomeAnd slot.old (λ desk. D.manager desk ≡ M.manager) }
+    requires none_live { IfSome slot.old (λ desk. D.live desk ≡ 0) }
+    ensures is { IsSomeAnd slot.new (λ desk. D.manager desk ≡ M.manager) }
+    ensures none_live { IfSome slot.new (λ desk. D.live desk ≡ 0) }
+{
+    let mut desk = DeskOf::<B, D, M>::new(slot);
+    let hammered = hammer(rt, alloc, gate, reports, &mut desk, writer, size);
+    let DeskOf { desk, of: _ } = desk;
+    *slot = Some(desk);
+    hammered
+}
+
+/// Opens the connections of a hammer of `size` at `desk`, has them play, each once `gate` lets it pass, and
+/// closes them. The workers report to `reports`, and `writer` gets what an audit counts before the close.
+fn hammer<
+    B: Board<Part> + Send,
+    D: Desk<OwnSession<Part, B>>,
+    M: ManagerName + Send,
+    G: Gate + Sync,
+    H: Threads + Wait + Sync,
+    P: Progress + Sync,
+    W: Write,
+>(
+    rt: &H,
+    alloc: Global,
+    gate: &G,
+    reports: &Reports<P>,
+    desk: &mut DeskOf<B, D, M>,
+    writer: &mut W,
+    size: Hammer,
+) -> Result<(), Fault>
+    requires none_live { D.live desk.old.desk ≡ 0 }
+    ensures none_live { D.live desk.new.desk ≡ 0 }
+{
+    let Ok(mut crew) = desk.open_all(rt, alloc, DATABASE, size.sessions) else {
+        return Err(Fault::NoMemory);
+    };
+    let hammered = play(rt, gate, reports, &mut crew, size.rounds);
+    let counted = match hammered {
+        Ok(()) => count(rt, alloc, desk, writer, &mut crew),
+        Err(fault) => Err(fault),
+    };
+    desk.close_all(rt, crew);
+    counted
+}
+
+/// Has those of `crew` play `rounds` rounds, each once `gate` lets it pass, and take their last locks. The
+/// workers report to `reports`.
+fn play<
+    B: Board<Part> + Send,
+    M: ManagerName + Send,
+    G: Gate + Sync,
+    H: Threads + Wait + Sync,
+    P: Progress + Sync,
+>(
+    rt: &H,
+    gate: &G,
+    reports: &Reports<P>,
+    crew: &mut Vec<Connection<B, M>>,
     rounds: u32,
 ) -> Result<(), Fault>
-    requires seats { SeatsAre B.seat D.seat }
-    requires own { AreOf B.seat (D.manager desk.old) crew.old.items }
-    requires live { D.live desk.old ≡ length crew.old.items }
-    ensures manager { D.manager desk.new ≡ D.manager desk.old }
-    ensures own { AreOf B.seat (D.manager desk.old) crew.new.items }
-    ensures live { D.live desk.new ≡ length crew.new.items }
+    ensures as_many { length crew.new.items ≡ length crew.old.items }
 {
     all_work(rt, gate, reports, Task::Rounds(rounds), crew);
     reports.end()?;
     all_work(rt, gate, reports, Task::Weak, crew);
     all_work(rt, gate, reports, Task::Strong, crew);
-    reports.outcome()?;
-    match desk.audit(rt, crew) {
+    reports.outcome()
+}
+
+/// Has `desk` count what those of `crew` have, which are all that are open, and prints it on `writer`.
+fn count<B: Board<Part>, D: Desk<OwnSession<Part, B>>, M: ManagerName, H: Wait, W: Write>(
+    rt: &H,
+    alloc: Global,
+    desk: &mut DeskOf<B, D, M>,
+    writer: &mut W,
+    crew: &mut Vec<Connection<B, M>>,
+) -> Result<(), Fault>
+    requires all { length crew.old.items ≡ D.live desk.old.desk }
+    ensures as_many { length crew.new.items ≡ length crew.old.items }
+    ensures live { D.live desk.new.desk ≡ D.live desk.old.desk }
+{
+    match desk.audit(rt, alloc, crew) {
         Ok(audit) => print_audit(writer, audit),
         Err(_) => Err(Fault::NoMemory),
     }

@@ -1,10 +1,10 @@
 //! The workers of a hammer: what each session does in its thread, and what they take at the end.
 
 ghost use Rattle.std.specs.Prelude.{◌≡◌, length};
-ghost use Rattle.lock_manager.specs.Crews.{KeepManagers, KeepsSeat};
 
 use crate::progress::Progress;
-use lock_manager::{Acquired, Board, Mode, OwnSession, Owner, Part, Refusal, Tag};
+use connections::{Connection, ManagerName};
+use lock_manager::{Acquired, Board, Mode, Owner, Part, Refusal, Tag};
 use lock_script::Fault;
 use lock_table::NoMemory;
 use std::sync::Wait;
@@ -110,85 +110,78 @@ fn relation(round: u32) -> Tag {
     Tag::relation(DATABASE, FIRST_RELATION + round % RELATIONS)
 }
 
-/// Has all of `sessions` do `task`, which starts rounds only where `gate` lets the worker pass, and report to
+/// Has all of `crew` do `task`, which starts rounds only where `gate` lets the worker pass, and report to
 /// `reports`.
 pub fn all_work<
     B: Board<Part> + Send,
+    M: ManagerName + Send,
     G: Gate + Sync,
     P: Progress + Sync,
     R: Threads + Wait + Sync,
->(rt: &R, gate: &G, reports: &Reports<P>, task: Task, sessions: &mut Vec<OwnSession<Part, B>>)
-    ensures own { KeepManagers B.seat sessions.old.items sessions.new.items }
-    ensures as_many { length sessions.new.items ≡ length sessions.old.items }
+>(rt: &R, gate: &G, reports: &Reports<P>, task: Task, crew: &mut Vec<Connection<B, M>>)
+    ensures as_many { length crew.new.items ≡ length crew.old.items }
 {
-    each_works(rt, gate, reports, task, sessions.as_mut_slice());
+    each_works(rt, gate, reports, task, crew.as_mut_slice());
 }
 
-/// Has each of `sessions` do `task` and report to `reports`. Rounds are played in as many threads as there
-/// are sessions, each once `gate` lets the worker pass. All else is done in one thread, in the order of the
-/// sessions.
-fn each_works<B: Board<Part> + Send, G: Gate + Sync, P: Progress + Sync, R: Threads + Wait + Sync>(
-    rt: &R,
-    gate: &G,
-    reports: &Reports<P>,
-    task: Task,
-    sessions: &mut [OwnSession<Part, B>],
-)
-    ensures own { KeepManagers B.seat sessions.old sessions.new }
-{
+/// Has each of `crew` do `task` and report to `reports`. Rounds are played in as many threads as there are
+/// connections, each once `gate` lets the worker pass. All else is done in one thread, in their order.
+fn each_works<
+    B: Board<Part> + Send,
+    M: ManagerName + Send,
+    G: Gate + Sync,
+    P: Progress + Sync,
+    R: Threads + Wait + Sync,
+>(rt: &R, gate: &G, reports: &Reports<P>, task: Task, crew: &mut [Connection<B, M>]) {
     let threads = match task {
-        Task::Rounds(_) => sessions.len().max(1),
+        Task::Rounds(_) => crew.len().max(1),
         Task::Weak | Task::Strong => 1,
     };
     for_each_mut(
         rt,
-        sessions,
+        crew,
         threads,
-        &|place, session| play_part(rt, gate, reports, task, place, session),
+        &|place, connection| play_part(rt, gate, reports, task, place, connection),
     );
 }
 
-/// Has `session`, at `place` among the sessions of the hammer, do its part of `task` and report to `reports`.
+/// Has `connection`, at `place` among those of the hammer, do its part of `task` and report to `reports`.
 /// It plays rounds only if `gate` lets it pass.
-fn play_part<B: Board<Part>, G: Gate, P: Progress, R: Wait>(
+fn play_part<B: Board<Part>, M: ManagerName, G: Gate, P: Progress, R: Wait>(
     rt: &R,
     gate: &G,
     reports: &Reports<P>,
     task: Task,
     place: usize,
-    session: &mut OwnSession<Part, B>,
-)
-    ensures seat { KeepsSeat B.seat session.old session.new }
-{
+    connection: &mut Connection<B, M>,
+) {
     match task {
-        Task::Rounds(rounds) => work(rt, gate, reports, rounds, session),
-        Task::Weak => take(rt, reports, relation(0), Mode::AccessShare, session),
+        Task::Rounds(rounds) => work(rt, gate, reports, rounds, connection),
+        Task::Weak => take(rt, reports, relation(0), Mode::AccessShare, connection),
         Task::Strong => {
             if place == 0 {
-                take(rt, reports, relation(1), Mode::Share, session);
+                take(rt, reports, relation(1), Mode::Share, connection);
             }
         }
     }
 }
 
-/// Has the worker of `session` ask `gate` once and then play its `rounds`, as long as there is memory, and
+/// Has the worker of `connection` ask `gate` once and then play its `rounds`, as long as there is memory, and
 /// report to `reports`.
-fn work<B: Board<Part>, G: Gate, P: Progress, R: Wait>(
+fn work<B: Board<Part>, M: ManagerName, G: Gate, P: Progress, R: Wait>(
     rt: &R,
     gate: &G,
     reports: &Reports<P>,
     rounds: u32,
-    session: &mut OwnSession<Part, B>,
-)
-    ensures seat { KeepsSeat B.seat session.old session.new }
-{
-    let worker = u32::from(session.id().number());
+    connection: &mut Connection<B, M>,
+) {
+    let worker = u32::from(connection.session.id().number());
     if !gate.pass(worker) {
         reports.hold();
         return;
     }
     'rounds: for round in 0..rounds {
-        if play_round(rt, worker, round, session).is_err() {
+        if play_round(rt, worker, round, connection).is_err() {
             reports.run_short();
             return;
         }
@@ -196,20 +189,18 @@ fn work<B: Board<Part>, G: Gate, P: Progress, R: Wait>(
     }
 }
 
-/// Plays `round`: `worker` has `session` ask for a mode on a relation, and gives back what it was granted.
-fn play_round<B: Board<Part>, R: Wait>(
+/// Plays `round`: `worker` has `connection` ask for a mode on a relation, and gives back what it was granted.
+fn play_round<B: Board<Part>, M: ManagerName, R: Wait>(
     rt: &R,
     worker: u32,
     round: u32,
-    session: &mut OwnSession<Part, B>,
-) -> Result<(), NoMemory>
-    ensures seat { KeepsSeat B.seat session.old session.new }
-{
+    connection: &mut Connection<B, M>,
+) -> Result<(), NoMemory> {
     let tag = relation(round);
     let mode = Mode::ALL[((worker % 8 + round % 8) % 8) as usize];
-    match ask(rt, round, tag, mode, session) {
+    match ask(rt, round, tag, mode, connection) {
         Ok(_) => {
-            let _released = session.unlock(rt, tag, mode, Owner::Transaction);
+            let _released = connection.session.unlock(rt, tag, mode, Owner::Transaction);
             Ok(())
         }
         Err(Refusal::NoMemory) => Err(NoMemory),
@@ -217,35 +208,38 @@ fn play_round<B: Board<Part>, R: Wait>(
     }
 }
 
-/// Has `session` ask for `mode` on `tag` in `round`: in the last of every sixteen rounds it waits where
+/// Has `connection` ask for `mode` on `tag` in `round`: in the last of every sixteen rounds it waits where
 /// something is in the way, and in the others it is refused then.
-fn ask<B: Board<Part>, R: Wait>(
+fn ask<B: Board<Part>, M: ManagerName, R: Wait>(
     rt: &R,
     round: u32,
     tag: Tag,
     mode: Mode,
-    session: &mut OwnSession<Part, B>,
-) -> Result<Acquired, Refusal>
-    ensures seat { KeepsSeat B.seat session.old session.new }
-{
+    connection: &mut Connection<B, M>,
+) -> Result<Acquired, Refusal> {
     if round % PATIENCE == PATIENCE - 1 {
-        session.acquire(rt, tag, mode, Owner::Transaction)
+        connection
+            .session
+            .acquire(rt, tag, mode, Owner::Transaction)
     } else {
-        session.try_lock(rt, tag, mode, Owner::Transaction)
+        connection
+            .session
+            .try_lock(rt, tag, mode, Owner::Transaction)
     }
 }
 
-/// Has `session` take `mode` on `tag`, which nothing is in the way of, and keep it, and reports to `reports`.
-fn take<B: Board<Part>, P: Progress, R: Wait>(
+/// Has `connection` take `mode` on `tag`, which nothing is in the way of, and keep it, and reports to
+/// `reports`.
+fn take<B: Board<Part>, M: ManagerName, P: Progress, R: Wait>(
     rt: &R,
     reports: &Reports<P>,
     tag: Tag,
     mode: Mode,
-    session: &mut OwnSession<Part, B>,
-)
-    ensures seat { KeepsSeat B.seat session.old session.new }
-{
-    let answer = session.try_lock(rt, tag, mode, Owner::Transaction);
+    connection: &mut Connection<B, M>,
+) {
+    let answer = connection
+        .session
+        .try_lock(rt, tag, mode, Owner::Transaction);
     if let Err(Refusal::NoMemory) = answer {
         reports.run_short();
     }

@@ -41,9 +41,8 @@ mod watched;
 mod watches;
 
 use cases::{Case, perform};
-use connections::ManagerName;
+use connections::{DeskOf, ManagerName};
 use crews::Crew;
-use desk::DeskOf;
 use limits::Limits;
 use lock_manager::{
     Board, Config, Desk, Final, MOST_SESSIONS, Manager, ManagerDesk, Mode, Opener, OwnSession,

@@ -12,6 +12,15 @@ pub fn expect_answer<R: Abort>(rt: &R, answer: Answer, expected: Answer) {
     assert_eq!(rt; answer, expected);
 }
 
+/// Ends the test where `answer`, to a request that may be given up, isn't `expected`.
+pub fn expect_within<R: Abort>(
+    rt: &R,
+    answer: Result<Option<Acquired>, Refusal>,
+    expected: Result<Option<Acquired>, Refusal>,
+) {
+    assert_eq!(rt; answer, expected);
+}
+
 /// Ends the test unless a session made a request that was answered `expected`, as `answer` says.
 pub fn expect_acted<R: Abort>(rt: &R, answer: Option<Answer>, expected: Answer) {
     match answer {

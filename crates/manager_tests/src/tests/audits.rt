@@ -1,10 +1,10 @@
 //! Audits, with all open sessions lent, beside numbers that were counted by hand, and beside what one of the
 //! sessions sees.
 
-use super::desk::{Beginning, DeskOf, open_behind};
+use super::desk::{Beginning, open_behind};
 use super::memory::{list_at_last, take_at_last};
 use super::sessions::commit;
-use connections::{Connection, ManagerName};
+use connections::{Connection, DeskOf, ManagerName};
 use lock_manager::Mode::{
     AccessExclusive, AccessShare, RowExclusive, RowShare, Share, ShareRowExclusive,
     ShareUpdateExclusive,
@@ -97,6 +97,7 @@ pub fn count<B: Board<Part>, D: Desk<OwnSession<Part, B>>, M: ManagerName, R: Ab
     connections: &mut Vec<Connection<B, M>>,
     expected: Numbers,
 ) {
+    assert_eq!(rt; connections.len() as u64, u64::from(desk.live()));
     let mut counted = desk.audit(rt, alloc, connections);
     if counted.is_err() {
         counted = desk.audit(rt, alloc, connections);
@@ -145,7 +146,7 @@ pub fn audit_often<B: Board<Part>, D: Desk<OwnSession<Part, B>>, M: ManagerName,
     count(rt, alloc, desk, &mut connections, COMMITTED);
     end_each(rt, connections.as_mut_slice(), false);
     count(rt, alloc, desk, &mut connections, NOTHING);
-    desk.close_all(rt, alloc, connections);
+    desk.close_all(rt, connections);
 }
 
 /// How many of `rows` are of holds.
@@ -195,5 +196,5 @@ pub fn close_counted<B: Board<Part>, D: Desk<OwnSession<Part, B>>, M: ManagerNam
         None => NOTHING,
     };
     count(rt, alloc, desk, &mut connections, seen);
-    desk.close_all(rt, alloc, connections);
+    desk.close_all(rt, connections);
 }

@@ -3,11 +3,11 @@
 
 use super::answers::{Answer, expect_asked};
 use super::crowds::{Watch, guard};
-use super::desk::{DeskOf, Lending};
+use super::desk::{Lending, open};
 use super::gates::{Gate, Wins};
 use super::sessions::{commit, list, try_lock};
 use super::waits::{OWNER, TABLE, find_still, give_back, leave, queue, take};
-use connections::{Connection, ManagerName};
+use connections::{Connection, DeskOf, ManagerName};
 use lock_manager::{
     Asked, Board, Desk, How, Listing, Mode, OwnSession, Part, Refusal, SessionId, SessionLife,
     SessionPool, Tag,
@@ -305,9 +305,9 @@ pub fn come_and_go_beside<
         wins: Wins::none(),
         watch: Watch::new(),
     };
-    let mut asker = desk.open(rt);
-    let mut lister = desk.open(rt);
-    let mut strong = desk.open(rt);
+    let mut asker = open(rt, desk);
+    let mut lister = open(rt, desk);
+    let mut strong = open(rt, desk);
     let pool = SessionPool::new(alloc).expect(rt, "a pool");
     let mut lending = Lending::new(pool);
     act_side_by_side(

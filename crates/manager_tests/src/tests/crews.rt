@@ -3,10 +3,10 @@
 
 use super::audits::close_counted;
 use super::crowds::Crowd;
-use super::desk::{Beginning, DeskOf, open_many};
+use super::desk::{Beginning, open_many};
 use super::threads::Plan;
 use super::{asked, crowds, queues, threads, watches};
-use connections::{Connection, ManagerName};
+use connections::{Connection, DeskOf, ManagerName};
 use lock_manager::{Board, Desk, Mode, OwnSession, Part};
 use std::alloc::Global;
 use std::process::Abort;

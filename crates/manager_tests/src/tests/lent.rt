@@ -1,8 +1,8 @@
 //! A pool of a server's sessions, which lends them and takes them back, those with numbers above 64 too.
 
-use super::desk::{DeskOf, Lending, append};
+use super::desk::{Lending, append};
 use super::sessions::take_tag;
-use connections::{Connection, ManagerName};
+use connections::{Connection, DeskOf, ManagerName};
 use lock_manager::{
     Board, Desk, MOST_SESSIONS, Mode, OwnSession, Owner, Part, Refusal, SessionLife, SessionPool,
     Tag,

@@ -2,9 +2,9 @@
 
 use super::answers::expect_rows;
 use super::audits::{NOTHING, Numbers, count, end_each};
-use super::desk::{Beginning, DeskOf, open_many};
+use super::desk::{Beginning, open_many};
 use super::sessions::{list, take_tag, try_lock};
-use connections::{Connection, ManagerName};
+use connections::{Connection, DeskOf, ManagerName};
 use lock_manager::{Board, Desk, Mode, OwnSession, Owner, Part, Refusal, Tag};
 use std::alloc::Global;
 use std::process::Abort;
@@ -84,5 +84,5 @@ pub fn hold_all<B: Board<Part>, D: Desk<OwnSession<Part, B>>, M: ManagerName, R:
     list_all(rt, &mut connections, held);
     end_each(rt, connections.as_mut_slice(), true);
     count(rt, alloc, desk, &mut connections, NOTHING);
-    desk.close_all(rt, alloc, connections);
+    desk.close_all(rt, connections);
 }

@@ -1,9 +1,9 @@
 //! Connections that come and go: each of them has the one number that there is, in a life of its own.
 
 use super::answers::expect_granted;
-use super::desk::{DeskOf, Lending};
+use super::desk::Lending;
 use super::sessions::{take_tag, try_fast};
-use connections::{Connection, ManagerName};
+use connections::{Connection, DeskOf, ManagerName};
 use lock_manager::{Asked, Board, Desk, Mode, OwnSession, Owner, Part, SessionPool, Tag};
 use std::alloc::Global;
 use std::process::Abort;

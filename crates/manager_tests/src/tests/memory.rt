@@ -1,10 +1,10 @@
 //! Want of memory is an answer, after which nothing is lost.
 
 use super::answers::{Answer, expect_answer, expect_granted};
-use super::desk::DeskOf;
+use super::desk::open;
 use super::pair::Pair;
 use super::sessions::{give_tag_back, list, try_lock};
-use connections::{Connection, ManagerName};
+use connections::{Connection, DeskOf, ManagerName};
 use lock_manager::{
     Board, Desk, How, Listing, Mode, OwnSession, Owner, Part, Refusal, SessionId, SlotRow,
     TableRow, Tag,
@@ -99,7 +99,7 @@ pub fn go_on<B: Board<Part>, D: Desk<OwnSession<Part, B>>, M: ManagerName, R: Ab
     rt: &R,
     desk: &mut DeskOf<B, D, M>,
 ) {
-    let mut connection = desk.open(rt);
+    let mut connection = open(rt, desk);
     take_many(rt, &mut connection);
     give_many_back(rt, &mut connection);
     desk.close(rt, connection);

@@ -1,8 +1,8 @@
 //! Two sessions of one manager.
 
 use super::audits::close_counted;
-use super::desk::{DeskOf, append};
-use connections::{Connection, ManagerName};
+use super::desk::{append, open};
+use connections::{Connection, DeskOf, ManagerName};
 use lock_manager::{Board, Desk, OwnSession, Part};
 use std::alloc::Global;
 use std::process::Abort;
@@ -19,8 +19,8 @@ impl<B: Board<Part>, M: ManagerName> Pair<B, M> {
         rt: &R,
         desk: &mut DeskOf<B, D, M>,
     ) -> Self {
-        let first = desk.open(rt);
-        let second = desk.open(rt);
+        let first = open(rt, desk);
+        let second = open(rt, desk);
         Pair { first, second }
     }
 

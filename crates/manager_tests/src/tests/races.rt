@@ -8,7 +8,7 @@ use super::sessions::{commit, list, try_fast};
 use super::tasks::{Task, act_side_by_side};
 use super::waits::{OWNER, TABLE, expect_gone, give_back, queue, take};
 use connections::{Connection, ManagerName, WaitingConnection};
-use lock_manager::{Acquired, Board, How, Mode, Part, Refusal, SessionId};
+use lock_manager::{Acquired, Board, Call, How, Mode, Part, Refusal, SessionId};
 use std::process::Abort;
 use std::sync::Wait;
 use std::thread::{Threads, join};
@@ -94,7 +94,8 @@ fn try_weak_against_strong<
     M: ManagerName + Send,
     R: Abort + Threads + Wait + Sync,
 >(rt: &R, pair: &mut Pair<B, M>, weak: Mode, strong: Mode, round: &Round<'_>) {
-    let (tries_fast, tries) = (Task::TryFast(weak), Task::Try(strong));
+    let tries_fast = Task::Makes(Call::TryFast(TABLE, weak, OWNER));
+    let tries = Task::Makes(Call::TryLock(TABLE, strong, OWNER));
     let ended = act_side_by_side(rt, pair, tries_fast, tries, round.number);
     let holder = pair.first.session.id();
     let (weak_one, strong_one) = (ended.of_first, ended.of_second);
@@ -112,8 +113,9 @@ fn try_beside_release<
     R: Abort + Threads + Wait + Sync,
 >(rt: &R, pair: &mut Pair<B, M>, weak: Mode, strong: Mode, round: &Round<'_>) {
     take_fast(rt, &mut pair.first, weak);
-    let tries = Task::Try(strong);
-    let answer = act_side_by_side(rt, pair, Task::Commit, tries, round.number).of_second;
+    let commits = Task::Makes(Call::Commit);
+    let tries = Task::Makes(Call::TryLock(TABLE, strong, OWNER));
+    let answer = act_side_by_side(rt, pair, commits, tries, round.number).of_second;
     if answer != Some(Ok(Acquired::Granted)) {
         expect_in_the_way(rt, answer, pair.first.session.id(), weak);
     }
@@ -138,7 +140,8 @@ fn try_strong_over_weak<
 >(rt: &R, pair: &mut Pair<B, M>, weak: Mode, strong: Mode, round: &Round<'_>) {
     take_fast(rt, &mut pair.first, weak);
     take_fast(rt, &mut pair.second, weak);
-    let (one, other) = (Task::Try(strong), Task::Try(strong));
+    let one = Task::Makes(Call::TryLock(TABLE, strong, OWNER));
+    let other = Task::Makes(Call::TryLock(TABLE, strong, OWNER));
     let ended = act_side_by_side(rt, pair, one, other, round.number);
     expect_in_the_way(rt, ended.of_first, pair.second.session.id(), weak);
     expect_in_the_way(rt, ended.of_second, pair.first.session.id(), weak);
@@ -243,7 +246,8 @@ fn ask_before_sleep<B: Board<Part> + Send, M: ManagerName + Send, R: Abort + Thr
 ) {
     let asks = Task::AskUntilHeard(pair.second.session.id());
     take(rt, &mut pair.first, Mode::AccessExclusive);
-    let ended = act_side_by_side(rt, pair, asks, Task::Lock(Mode::AccessShare), 0);
+    let waits = Task::Makes(Call::Acquire(TABLE, Mode::AccessShare, OWNER));
+    let ended = act_side_by_side(rt, pair, asks, waits, 0);
     expect_acted(rt, ended.of_second, Err(Refusal::Cancelled));
     give_back(rt, &mut pair.first, Mode::AccessExclusive);
 }

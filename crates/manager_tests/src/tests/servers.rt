@@ -2,11 +2,11 @@
 //! them wait in one queue and are let go by one release. On one thread.
 
 use super::audits::{close_counted, count, granted_in};
-use super::desk::{Beginning, DeskOf, append, open_many};
+use super::desk::{Beginning, append, is_full, open, open_many};
 use super::limits::list_all;
 use super::sessions::{commit, list};
 use super::waits::{TABLE, find_granted, find_still, give_back, queue, take};
-use connections::{Connection, ManagerName, WaitingConnection};
+use connections::{Connection, DeskOf, ManagerName, WaitingConnection};
 use lock_manager::{Blocker, Board, Desk, MOST_SESSIONS, Mode, OwnSession, Part, QueueRow};
 use std::alloc::Global;
 use std::process::Abort;
@@ -23,7 +23,7 @@ fn expect_full<B: Board<Part>, D: Desk<OwnSession<Part, B>>, M: ManagerName, R: 
     rt: &R,
     desk: &mut DeskOf<B, D, M>,
 ) {
-    let is_full = desk.is_full(rt);
+    let is_full = is_full(rt, desk);
     assert!(rt; is_full, "a session more than there can be");
 }
 
@@ -103,7 +103,7 @@ fn open_waiting<B: Board<Part>, D: Desk<OwnSession<Part, B>>, M: ManagerName, R:
     desk: &mut DeskOf<B, D, M>,
     mode: Mode,
 ) -> WaitingConnection<B, M> {
-    queue(rt, desk.open(rt), mode)
+    queue(rt, open(rt, desk), mode)
 }
 
 /// Opens the sessions that one release lets go: each waits to share the table.
@@ -168,7 +168,7 @@ pub fn let_hundreds_go<
     M: ManagerName,
     R: Abort + Wait,
 >(rt: &R, alloc: Global, desk: &mut DeskOf<B, D, M>) {
-    let mut holder = desk.open(rt);
+    let mut holder = open(rt, desk);
     take(rt, &mut holder, Mode::AccessExclusive);
     let waits = open_queue(rt, alloc, desk);
     let last = open_waiting(rt, desk, Mode::AccessExclusive);

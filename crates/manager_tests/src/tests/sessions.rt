@@ -3,9 +3,22 @@
 
 use super::answers::{Answer, expect_granted, expect_released};
 use connections::{Connection, ManagerName};
-use lock_manager::{Board, Listing, Mode, Owner, Part, Refusal, Tag, Unlocked};
+use lock_manager::{Board, Call, Listing, Mode, Owner, Part, Refusal, Tag, Unlocked};
 use std::process::Abort;
 use std::sync::Wait;
+
+/// Makes `call` with `connection`. If it is a request, answers what that was answered.
+pub fn make<B: Board<Part>, M: ManagerName, R: Wait>(
+    rt: &R,
+    connection: &mut Connection<B, M>,
+    call: Call,
+) -> Option<Answer> {
+    let answer = connection.session.make(rt, call);
+    match &answer {
+        lock_manager::Answer::Acquired(answer) => Some(*answer),
+        _ => None,
+    }
+}
 
 /// Asks for `tag` in `mode` for `owner` with `connection`, without a wait.
 pub fn try_lock<B: Board<Part>, M: ManagerName, R: Wait>(

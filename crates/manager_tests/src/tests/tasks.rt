@@ -4,26 +4,20 @@ use super::answers::Answer;
 use super::busy::{take_until_seen, try_until_busy};
 use super::gates::Gate;
 use super::pair::Pair;
-use super::sessions::{acquire, commit, try_fast, try_lock};
-use super::waits::{OWNER, TABLE, ask, ask_until_heard, give_back, see_wait};
+use super::sessions::make;
+use super::waits::{ask, ask_until_heard, give_back, see_wait};
 use connections::{Connection, ManagerName};
-use lock_manager::{Asked, Board, Mode, Part, SessionId};
+use lock_manager::{Asked, Board, Call, Mode, Part, SessionId};
 use std::process::Abort;
 use std::sync::Wait;
 use std::sync::atomic::{AtomicBool, AtomicU64, Ordering};
 use std::thread::{Threads, join};
 
-/// What a session does with the table.
+/// What a session does.
 #[derive(Clone, Copy)]
 pub enum Task {
-    /// Asks for the table in a mode by a fast-path slot.
-    TryFast(Mode),
-    /// Asks for the table in a mode, without a wait.
-    Try(Mode),
-    /// Ends the transaction, which gives back all that it has.
-    Commit,
-    /// Asks for the table in a mode, and sleeps until the wait is over.
-    Lock(Mode),
+    /// Makes this call.
+    Makes(Call),
     /// Asks this session to cancel until it is heard, which is once that one waits.
     AskUntilHeard(SessionId),
     /// Asks this session to cancel once its wait shows.
@@ -114,13 +108,7 @@ fn do_task<B: Board<Part>, M: ManagerName, R: Abort + Wait>(
     task: Task,
 ) -> Option<Answer> {
     match task {
-        Task::TryFast(mode) => Some(try_fast(connection, TABLE, mode, OWNER)),
-        Task::Try(mode) => Some(try_lock(rt, connection, TABLE, mode, OWNER)),
-        Task::Commit => {
-            commit(rt, connection);
-            None
-        }
-        Task::Lock(mode) => Some(acquire(rt, connection, TABLE, mode, OWNER)),
+        Task::Makes(call) => make(rt, connection, call),
         Task::AskUntilHeard(number) => {
             ask_until_heard(rt, connection, number);
             None

@@ -1,12 +1,11 @@
 //! Races on boards that pause now and then, before and after a step. So other sessions' steps come between
 //! any two of a session, far more often than threads meet there by themselves.
 
-ghost use Rattle.std.specs.Prelude.{◌≡◌, ◌≤◌, All, IfOk};
+ghost use Rattle.std.specs.Prelude.{◌≡◌, ◌≤◌, IfOk};
 ghost use Rattle.shared_rule.specs.Opening.{AreNew};
-ghost use Rattle.lock_manager.specs.Crews.{AreOf};
 
 use super::crews::{Crew, act};
-use super::desk::{append, lend, take_back};
+use super::desk::append;
 use super::gates::mixed;
 use super::pair::Pair;
 use super::races::{Race, race_often};
@@ -19,7 +18,7 @@ use shared_rule::{
     Board, Kept, SeatBoard, SeatOpener, SharedTable, SharedWords, TableSizes, in_shelves, open,
 };
 use std::alloc::Global;
-use std::marker::Brand;
+use std::marker::{Brand, PhantomData};
 use std::process::Abort;
 use std::sync::Wait;
 use std::sync::atomic::{AtomicU64, Ordering};
@@ -84,8 +83,8 @@ impl Watch for Pauses {
     }
 }
 
-/// A session at the shared table, on a board that pauses.
-type Unsteady<'a> = OwnSession<Part, WatchedBoard<SeatBoard<'a, Part>, Pauses>>;
+/// A board of the shared table that pauses.
+type Unsteady<'a> = WatchedBoard<SeatBoard<'a, Part>, Pauses>;
 
 /// Sixteen empty partitions, each on its shelf of a table for `sessions` sessions.
 fn empty_shelves(alloc: Global, sessions: u16) -> Result<Vec<Kept<Part>>, Fail>
@@ -112,75 +111,63 @@ fn open_table(alloc: Global, sessions: u16) -> Result<(SharedTable<Part>, SeatOp
     }
 }
 
-/// Opens the next session of `table`, on a board that pauses.
-fn open_next<'a, R: Abort>(
-    rt: &R,
-    alloc: Global,
+/// Opens and closes the sessions at `table`, of the manager that `M` names, on boards that pause.
+#[derive(Drop)]
+struct Opening<'a, M: ManagerName> {
     table: &'a SharedWords<Part>,
-    opener: &mut SeatOpener<Part>,
-) -> Unsteady<'a>
-    requires table { (opener.old.table ≡ table.now.table_id) × (opener.old.limit ≡ table.now.key.sessions)
-        × (opener.old.groups ≡ table.now.key.groups) }
-    requires few { opener.old.limit ≤ 64 }
-    ensures opener { (opener.new.table ≡ opener.old.table) × (opener.new.limit ≡ opener.old.limit)
-        × (opener.new.groups ≡ opener.old.groups) }
-    ensures own { let B = ⟦<WatchedBoard<SeatBoard<'a, Part>, Pauses> as Board<Part>>⟧ in
-        (B.seat result.board).table ≡ opener.old.table }
-{
-    let board = opener.session(table).expect(rt, "a session");
-    let pauses = Pauses::of(board.number());
-    match OwnSession::over(
-        alloc,
-        WatchedBoard::over(board, pauses),
-        DATABASE,
-        MAX_LOCAL,
-    ) {
-        Ok(session) => session,
-        Err(_) => panic!(rt; "no memory for a session"),
-    }
+    opener: SeatOpener<Part>,
+    of: PhantomData<M>,
+    ghost own: { (opener.table ≡ table.now.table_id) × (opener.limit ≡ table.now.key.sessions)
+        × (opener.groups ≡ table.now.key.groups) },
+    ghost few: { opener.limit ≤ 64 },
+    ghost is: { opener.table ≡ M.manager.table },
 }
 
-/// Opens `number` sessions of `table`, in the order of their numbers.
-fn open_all<'a, R: Abort>(
-    rt: &R,
-    alloc: Global,
-    table: &'a SharedWords<Part>,
-    opener: &mut SeatOpener<Part>,
-    number: u16,
-) -> Vec<Unsteady<'a>>
-    requires table { (opener.old.table ≡ table.now.table_id) × (opener.old.limit ≡ table.now.key.sessions)
-        × (opener.old.groups ≡ table.now.key.groups) }
-    requires few { opener.old.limit ≤ 64 }
-    ensures opener { opener.new.table ≡ opener.old.table }
-    ensures own { let B = ⟦<WatchedBoard<SeatBoard<'a, Part>, Pauses> as Board<Part>>⟧ in
-        All (λ session. (B.seat session.board).table ≡ opener.old.table) result.items }
-{
-    let mut sessions = Vec::new(alloc);
-    'sessions: for _ in 0..number {
-        let session = open_next(rt, alloc, table, opener);
-        append(rt, &mut sessions, session);
+impl<'a, M: ManagerName> Opening<'a, M> {
+    /// Opens the next session.
+    fn open<R: Abort>(&mut self, rt: &R, alloc: Global) -> Connection<Unsteady<'a>, M> {
+        let board = self.opener.session(self.table).expect(rt, "a session");
+        let pauses = Pauses::of(board.number());
+        match OwnSession::over(
+            alloc,
+            WatchedBoard::over(board, pauses),
+            DATABASE,
+            MAX_LOCAL,
+        ) {
+            Ok(session) => Connection::new(session, 0),
+            Err(_) => panic!(rt; "no memory for a session"),
+        }
     }
-    sessions
-}
 
-/// Closes `session`: all that it holds is released, and its number is that of a closed one.
-fn close<'a, R: Wait>(rt: &R, opener: &mut SeatOpener<Part>, session: Unsteady<'a>)
-    requires own { let B = ⟦<WatchedBoard<SeatBoard<'a, Part>, Pauses> as Board<Part>>⟧ in
-        (B.seat session.board).table ≡ opener.old.table }
-    ensures opener { opener.new.table ≡ opener.old.table }
-{
-    opener.close(session.into_board(rt).into_watched());
-}
-
-/// Closes all of `sessions` at the table of `opener`.
-fn close_all<'a, R: Wait>(rt: &R, opener: &mut SeatOpener<Part>, mut sessions: Vec<Unsteady<'a>>)
-    requires own { let B = ⟦<WatchedBoard<SeatBoard<'a, Part>, Pauses> as Board<Part>>⟧ in
-        All (λ session. (B.seat session.board).table ≡ opener.old.table) sessions.items }
-{
-    'sessions: while let Some(session) = sessions.pop() {
-        close(rt, opener, session);
+    /// Opens `number` sessions, in the order of their numbers.
+    fn open_all<R: Abort>(
+        &mut self,
+        rt: &R,
+        alloc: Global,
+        number: u16,
+    ) -> Vec<Connection<Unsteady<'a>, M>> {
+        let mut connections = Vec::new(alloc);
+        for _ in 0..number {
+            let connection = self.open(rt, alloc);
+            append(rt, &mut connections, connection);
+        }
+        connections
     }
-    sessions.destroy_empty();
+
+    /// Closes the session of `connection`: all that it holds is released, and its number is that of a closed
+    /// one.
+    fn close<R: Wait>(&mut self, rt: &R, connection: Connection<Unsteady<'a>, M>) {
+        let board = connection.into_session().into_board(rt);
+        self.opener.close(board.into_watched());
+    }
+
+    /// Closes the sessions of all `connections`.
+    fn close_all<R: Wait>(&mut self, rt: &R, mut connections: Vec<Connection<Unsteady<'a>, M>>) {
+        'connections: while let Some(connection) = connections.pop() {
+            self.close(rt, connection);
+        }
+        connections.destroy_empty();
+    }
 }
 
 /// What sessions do on boards that pause.
@@ -218,57 +205,49 @@ fn race_two<B: Board<Part> + Send, M: ManagerName + Send, R: Abort + Threads + W
     append(rt, connections, first);
 }
 
-/// Has `sessions`, of the manager that `M` names, whose opener is `_opener`, do what `paused` says.
-fn play_at<
+/// Has those of `connections` do what `paused` says.
+fn play<
     B: Board<Part> + Send,
     M: ManagerName + Send,
     R: Abort + Clock + Threads + Wait + Sync + Print,
->(
-    rt: &R,
-    alloc: Global,
-    _opener: &SeatOpener<Part>,
-    sessions: Vec<OwnSession<Part, B>>,
-    paused: Paused,
-) -> Vec<OwnSession<Part, B>>
-    requires own { AreOf B.seat M.manager sessions.items }
-    ensures own { AreOf B.seat M.manager result.items }
-{
-    let mut connections: Vec<Connection<B, M>> = Vec::new(alloc);
-    take_back(rt, &mut connections, sessions);
+>(rt: &R, connections: &mut Vec<Connection<B, M>>, paused: Paused) {
     match paused {
-        Paused::Race(race, rounds) => race_two(rt, &mut connections, race, rounds),
+        Paused::Race(race, rounds) => race_two(rt, connections, race, rounds),
         Paused::Crew(crew) => act(rt, connections.as_mut_slice(), crew),
     }
-    let sessions = lend(rt, alloc, &mut connections);
-    connections.destroy_empty();
-    sessions
 }
 
-/// Has `sessions`, all at the table of `opener`, do what `paused` says. This function picks the manager that
-/// the types of their connections name.
-fn play_over<B: Board<Part> + Send, R: Abort + Clock + Threads + Wait + Sync + Print>(
+/// Has sessions at `table`, which `opener` gives out, of the manager that `M` names, do what `paused` says.
+fn play_at<M: ManagerName + Send, R: Abort + Clock + Threads + Wait + Sync + Print>(
     rt: &R,
     alloc: Global,
-    opener: &SeatOpener<Part>,
-    sessions: Vec<OwnSession<Part, B>>,
+    table: &SharedWords<Part>,
+    opener: SeatOpener<Part>,
     paused: Paused,
-) -> Vec<OwnSession<Part, B>>
-    requires own { All (λ session. (B.seat session.board).table ≡ opener.now.table) sessions.items }
-    ensures own { All (λ session. (B.seat session.board).table ≡ opener.now.table) result.items }
+)
+    requires own { (opener.table ≡ table.now.table_id) × (opener.limit ≡ table.now.key.sessions)
+        × (opener.groups ≡ table.now.key.groups) }
+    requires few { opener.limit ≤ 64 }
+    requires is { opener.table ≡ M.manager.table }
 {
-    play_at::<B, Brand, R>(rt, alloc, opener, sessions, paused)
+    let mut opening = Opening::<M> {
+        table,
+        opener,
+        of: PhantomData,
+    };
+    let mut connections = opening.open_all(rt, alloc, paused.sessions());
+    play(rt, &mut connections, paused);
+    opening.close_all(rt, connections);
 }
 
-/// Has sessions do what `paused` says at a table of their own, on boards that pause.
+/// Has sessions do what `paused` says at a table of their own, on boards that pause. This function picks the
+/// manager that the types of their connections name.
 pub fn play_with_pauses<R: Abort + Clock + Threads + Wait + Sync + Print>(
     rt: &R,
     alloc: Global,
     paused: Paused,
 ) -> Result<(), Fail> {
-    let number = paused.sessions();
-    let (table, mut opener) = open_table(alloc, number)?;
-    let sessions = open_all(rt, alloc, &table.shared, &mut opener, number);
-    let sessions = play_over(rt, alloc, &opener, sessions, paused);
-    close_all(rt, &mut opener, sessions);
+    let (table, opener) = open_table(alloc, paused.sessions())?;
+    play_at::<Brand, R>(rt, alloc, &table.shared, opener, paused);
     Ok(())
 }

@@ -1,13 +1,13 @@
 //! Cases of a wait: two sessions of which one waits for the other, on one thread and asleep in one of its
 //! own.
 
-use super::answers::{Answer, expect_acted, expect_answer, expect_seen};
+use super::answers::{Answer, expect_acted, expect_answer, expect_seen, expect_within};
 use super::pair::Pair;
 use super::sessions::commit;
 use super::tasks::{Task, act_side_by_side};
 use super::waits::{OWNER, TABLE, ask, find_granted, find_still, give_back, leave, queue, take};
 use connections::{Connection, ManagerName, WaitingConnection};
-use lock_manager::{Acquired, Asked, Board, Mode, Part, Refusal};
+use lock_manager::{Acquired, Asked, Board, Call, Mode, Part, Refusal};
 use std::process::Abort;
 use std::sync::Wait;
 use std::thread::Threads;
@@ -18,7 +18,7 @@ fn acquire_in_looks<B: Board<Part>, M: ManagerName, R: Abort + Wait>(
     rt: &R,
     connection: &mut Connection<B, M>,
     looks: u32,
-    expected: Answer,
+    expected: Result<Option<Acquired>, Refusal>,
 ) {
     let mut left = looks;
     let answer = connection
@@ -27,7 +27,7 @@ fn acquire_in_looks<B: Board<Part>, M: ManagerName, R: Abort + Wait>(
             left = left.saturating_sub(1);
             left != 0
         });
-    expect_answer(rt, answer, expected);
+    expect_within(rt, answer, expected);
 }
 
 /// Has the second session of `pair` give up its waits, after one look and after a hundred. They leave
@@ -35,13 +35,13 @@ fn acquire_in_looks<B: Board<Part>, M: ManagerName, R: Abort + Wait>(
 pub fn give_up<B: Board<Part>, M: ManagerName, R: Abort + Wait>(rt: &R, pair: &mut Pair<B, M>) {
     let Pair { first, second } = pair;
     take(rt, first, Mode::AccessExclusive);
-    acquire_in_looks(rt, second, 1, Err(Refusal::Cancelled));
-    acquire_in_looks(rt, second, 100, Err(Refusal::Cancelled));
+    acquire_in_looks(rt, second, 1, Ok(None));
+    acquire_in_looks(rt, second, 100, Ok(None));
     assert!(rt; second.session.held(TABLE).mask() == 0);
     assert_eq!(rt; second.session.strong_count(TABLE.strong_index()), 1);
     give_back(rt, first, Mode::AccessExclusive);
-    acquire_in_looks(rt, second, 1, Ok(Acquired::Granted));
-    acquire_in_looks(rt, second, 0, Ok(Acquired::AlreadyHeld));
+    acquire_in_looks(rt, second, 1, Ok(Some(Acquired::Granted)));
+    acquire_in_looks(rt, second, 0, Ok(Some(Acquired::AlreadyHeld)));
     second.session.abort(rt);
 }
 
@@ -164,7 +164,8 @@ pub fn sleep_in_a_thread<
         (gives_back, Ok(Acquired::Granted))
     };
     take(rt, &mut pair.first, Mode::AccessExclusive);
-    let ended = act_side_by_side(rt, pair, task, Task::Lock(Mode::AccessShare), 0);
+    let waits = Task::Makes(Call::Acquire(TABLE, Mode::AccessShare, OWNER));
+    let ended = act_side_by_side(rt, pair, task, waits, 0);
     expect_acted(rt, ended.of_second, expected);
     commit(rt, &mut pair.second);
     commit(rt, &mut pair.first);

@@ -2,10 +2,10 @@
 
 use super::answers::{Answer, expect_answer};
 use super::audits::close_counted;
-use super::desk::{DeskOf, append};
+use super::desk::{append, open};
 use super::sessions::acquire;
 use super::waits::{OWNER, TABLE, ask, expect_gone, give_back, leave, queue, see_wait, take};
-use connections::{Connection, ManagerName, WaitingConnection};
+use connections::{Connection, DeskOf, ManagerName, WaitingConnection};
 use lock_manager::{Acquired, Asked, Board, Desk, Mode, OwnSession, Part, Refusal, SessionId};
 use std::alloc::Global;
 use std::process::Abort;
@@ -89,10 +89,10 @@ pub fn let_go_by_a_cancel<
     M: ManagerName + Send,
     R: Abort + Threads + Wait + Sync,
 >(rt: &R, alloc: Global, desk: &mut DeskOf<B, D, M>) {
-    let mut holder = desk.open(rt);
+    let mut holder = open(rt, desk);
     take(rt, &mut holder, Mode::AccessShare);
-    let mut ahead = Some(queue(rt, desk.open(rt), Mode::AccessExclusive));
-    let mut behind = desk.open(rt);
+    let mut ahead = Some(queue(rt, open(rt, desk), Mode::AccessExclusive));
+    let mut behind = open(rt, desk);
     let number = behind.session.id();
     let left = leave_side_by_side(rt, &mut holder, &mut ahead, &mut behind, &number);
     expect_gone(rt, ahead);
@@ -136,9 +136,9 @@ pub fn woken_as_asked<
     M: ManagerName + Send,
     R: Abort + Threads + Wait + Sync,
 >(rt: &R, alloc: Global, desk: &mut DeskOf<B, D, M>) {
-    let mut holder = desk.open(rt);
+    let mut holder = open(rt, desk);
     take(rt, &mut holder, Mode::AccessExclusive);
-    let mut sleeper = desk.open(rt);
+    let mut sleeper = open(rt, desk);
     let number = sleeper.session.id();
     ask_side_by_side(rt, &mut holder, &mut sleeper, &number);
     give_back(rt, &mut holder, Mode::AccessExclusive);

@@ -225,7 +225,7 @@ impl<T: PartTable, B: Board<T>, W: Watch> Board<T> for WatchedBoard<B, W> {
         self.watch.after();
     }
 
-    fn sleep<R: Wait>(&self, rt: &R, shown: u64) {
+    fn sleep<R: Wait>(&mut self, rt: &R, shown: u64) {
         self.watch.before();
         self.board.sleep(rt, shown);
         self.watch.after();

@@ -1,5 +1,0 @@
-use Rattle.std.proofs.Common.{◌≡◌}
-use Rattle.lock_bench.proofs.steps.lock_and_commit.Given as goal
-
-abbrev pub invariant-laps : goal.invariant-laps
-invariant-laps g l = g.B.Board.seat l.session.board ≡ g.B.Board.seat l.fn.session.board

@@ -1,5 +1,0 @@
-use Rattle.std.proofs.Common.{◌≡◌}
-use Rattle.lock_hammer.proofs.workers.work.Given as goal
-
-abbrev pub invariant-rounds : goal.invariant-rounds
-invariant-rounds g l = g.B.Board.seat l.session.board ≡ g.B.Board.seat l.fn.session.board

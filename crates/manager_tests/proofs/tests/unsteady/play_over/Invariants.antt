@@ -1,4 +1,0 @@
-use Rattle.manager_tests.proofs.tests.unsteady.play_over.Given as goal
-
-abbrev pub ghosts-play_at : goal.ghosts-play_at
-ghosts-play_at g a = record { manager = record { table = a._opener.now.table; limit = 0; groups = 0; max_local = 0 } }
