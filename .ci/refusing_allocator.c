@@ -1,6 +1,7 @@
-/* An allocator that refuses growths as it is asked to, laid over the C library's for one program (LD_PRELOAD). A request for
-   NONE + n bytes, n from 1 to MOST, is refused and asks for the n-th growth from then on to be refused, MOST for each of them. A
-   request for NONE bytes ends that. It is refused where a growth was. */
+/* An allocator that refuses growths as it is asked to, laid over the C library's for one program
+   (LD_PRELOAD). A request for NONE + n bytes, n from 1 to MOST, is refused and asks for the n-th growth from
+   then on to be refused, MOST for each of them. A request for NONE bytes ends that. It is refused where a
+   growth was. */
 
 #include <stddef.h>
 

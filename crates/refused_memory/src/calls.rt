@@ -1,23 +1,35 @@
-//! Calls of a session that may take memory, each by a function that takes the session and gives it back.
+//! Calls of a session that may take memory, each by a function that takes its connection and gives it back.
 
-ghost use Rattle.std.specs.Prelude.{◌≡◌, IfOk, IfErr};
-ghost use Rattle.lock_manager.specs.Crews.{KeepsSeat};
-
+use connections::{Connection, ManagerName, WaitingConnection};
 use lock_manager::{
-    Acquired, Board, How, Mode, OwnSession, OwnWaiting, Owner, PartTable, Refusal, Started, Tag,
+    Acquired, Board, How, Mode, Owner, Part, Refusal, SessionId, Started, Tag, Unlocked,
 };
 use std::sync::Wait;
 
-/// What a session asks for on behalf of its transaction.
+/// A call of a session that is lent, on behalf of its transaction.
 #[derive(Clone, Copy)]
 pub enum Call {
     Try(Tag, Mode),
     /// A request by a fast-path slot or not at all.
     Fast(Tag, Mode),
+    Acquire(Tag, Mode),
+    Unlock(Tag, Mode),
+    List,
+    Queue(Tag),
+    /// Who is in the way of the session of this number.
+    Blockers(Tag, u16),
+    Waits,
+}
+
+/// What is asked of a session on behalf of its transaction.
+#[derive(Clone, Copy)]
+pub enum Request {
+    Makes(Call),
+    /// An `acquire_while` that gives its wait up at the first look.
+    While(Tag, Mode),
     /// The start of a request. A wait that it begins is cancelled.
     Start(Tag, Mode),
     Lock(Tag, Mode),
-    List,
 }
 
 /// What a call of a session is answered.
@@ -28,9 +40,15 @@ pub enum Answer {
     Queued,
     /// The session of this number holds this mode.
     Conflict(u16, Mode),
+    GivenUp,
+    /// A lock is given back, and nothing of it is left.
+    Released,
     /// The refusal of this number.
     Refused(u8),
-    Rows { fast: usize, table: usize },
+    /// The rows of a listing, by slots and in the table.
+    Listed { fast: usize, table: usize },
+    /// The rows of another look.
+    Rows(usize),
 }
 
 impl Answer {
@@ -61,108 +79,151 @@ fn answer_of(answer: Result<Acquired, Refusal>) -> Answer {
     }
 }
 
-/// The session, and what its call is answered.
-type Answered<T, B> = (OwnSession<T, B>, Answer);
-
-/// Asks for `tag` in `mode` with `session`, without waiting.
-pub fn try_lock<T: PartTable, B: Board<T>, R: Wait>(
-    rt: &R,
-    mut session: OwnSession<T, B>,
-    tag: Tag,
-    mode: Mode,
-) -> Answered<T, B>
-    ensures seat { KeepsSeat B.seat session result.0 }
-{
-    let answer = session.try_lock(rt, tag, mode, Owner::Transaction);
-    (session, answer_of(answer))
-}
-
-/// Asks for `tag` in `mode` with `session`, by a slot of its own alone.
-fn try_fast<T: PartTable, B: Board<T>>(
-    mut session: OwnSession<T, B>,
-    tag: Tag,
-    mode: Mode,
-) -> Answered<T, B>
-    ensures seat { KeepsSeat B.seat session result.0 }
-{
-    let answer = session.try_fast(tag, mode, Owner::Transaction);
-    (session, answer_of(answer))
-}
-
-/// Begins to wait for `tag` with `session`, and answers the session where it need not wait.
-pub fn queue<T: PartTable, B: Board<T>, R: Wait>(
-    rt: &R,
-    session: OwnSession<T, B>,
-    tag: Tag,
-) -> Result<OwnWaiting<T, B>, OwnSession<T, B>>
-    ensures waits { IfOk result (λ waiting. B.seat waiting.board ≡ B.seat session.board) }
-    ensures back { IfErr result (λ back. KeepsSeat B.seat session back) }
-{
-    match session.start(rt, tag, Mode::Exclusive, Owner::Transaction) {
-        Started::Queued(waiting) => Ok(waiting),
-        Started::Granted(session) => Err(session),
-        Started::AlreadyHeld(session) => Err(session),
-        Started::Refused(session, _) => Err(session),
+/// What the report says of `answer`, given to an unlock.
+fn unlocked(answer: Result<Unlocked, Refusal>) -> Answer {
+    match answer {
+        Ok(Unlocked::Released) => Answer::Released,
+        Ok(Unlocked::StillHeld) => Answer::AlreadyHeld,
+        Err(refusal) => refused(refusal),
     }
 }
 
-/// Cancels the wait of `waiting`, and answers its session.
-pub fn end_wait<T: PartTable, B: Board<T>, R: Wait>(
+/// What the report says of a look that was answered `rows`.
+fn rows_of<T: Drop>(rows: Result<Vec<T>, Refusal>) -> Answer {
+    match rows {
+        Ok(rows) => Answer::Rows(rows.len()),
+        Err(refusal) => refused(refusal),
+    }
+}
+
+/// The connection, and what its call is answered.
+type Answered<B, M> = (Connection<B, M>, Answer);
+
+/// Begins to wait for `tag` with `connection`, and answers the connection where it need not wait.
+pub fn queue<B: Board<Part>, M: ManagerName, R: Wait>(
     rt: &R,
-    waiting: OwnWaiting<T, B>,
-) -> OwnSession<T, B>
-    ensures seat { B.seat result.board ≡ B.seat waiting.board }
-{
+    connection: Connection<B, M>,
+    tag: Tag,
+) -> Result<WaitingConnection<B, M>, Connection<B, M>> {
+    match connection.start(rt, tag, Mode::Exclusive, Owner::Transaction) {
+        Started::Queued(waiting) => Ok(waiting),
+        Started::Granted(connection) => Err(connection),
+        Started::AlreadyHeld(connection) => Err(connection),
+        Started::Refused(connection, _) => Err(connection),
+    }
+}
+
+/// Cancels the wait of `waiting`, and answers its connection.
+pub fn end_wait<B: Board<Part>, M: ManagerName, R: Wait>(
+    rt: &R,
+    waiting: WaitingConnection<B, M>,
+) -> Connection<B, M> {
     waiting.cancel(rt).into_parts().0
 }
 
-/// Begins a request of `session` for `tag` in `mode`, and cancels the wait where there is one.
-fn start<T: PartTable, B: Board<T>, R: Wait>(
+/// Begins a request of `connection` for `tag` in `mode`, and cancels the wait where there is one.
+fn start<B: Board<Part>, M: ManagerName, R: Wait>(
     rt: &R,
-    session: OwnSession<T, B>,
+    connection: Connection<B, M>,
     tag: Tag,
     mode: Mode,
-) -> Answered<T, B>
-    ensures seat { KeepsSeat B.seat session result.0 }
-{
-    match session.start(rt, tag, mode, Owner::Transaction) {
-        Started::Granted(session) => (session, Answer::Granted),
-        Started::AlreadyHeld(session) => (session, Answer::AlreadyHeld),
+) -> Answered<B, M> {
+    match connection.start(rt, tag, mode, Owner::Transaction) {
+        Started::Granted(connection) => (connection, Answer::Granted),
+        Started::AlreadyHeld(connection) => (connection, Answer::AlreadyHeld),
         Started::Queued(waiting) => (end_wait(rt, waiting), Answer::Queued),
-        Started::Refused(session, refusal) => (session, refused(refusal)),
+        Started::Refused(connection, refusal) => (connection, refused(refusal)),
     }
 }
 
-/// Lists all holds and waits with `session`, and answers how many rows there are.
-fn list<T: PartTable, B: Board<T>, R: Wait>(rt: &R, mut session: OwnSession<T, B>) -> Answered<T, B>
-    ensures seat { KeepsSeat B.seat session result.0 }
-{
-    let answer = match session.list(rt) {
-        Ok(listing) => Answer::Rows {
+/// Takes `tag` in `mode` with `connection`, whose session is given up for the call and comes back.
+fn lock<B: Board<Part>, M: ManagerName, R: Wait>(
+    rt: &R,
+    connection: Connection<B, M>,
+    tag: Tag,
+    mode: Mode,
+) -> Answered<B, M> {
+    let life = connection.life().life;
+    let session = connection.into_session();
+    let (session, answer) = session.lock(rt, tag, mode, Owner::Transaction).into_parts();
+    (Connection::new(session, life), answer_of(answer))
+}
+
+/// Takes `tag` in `mode` with `connection`, and gives the wait up at its first look.
+fn acquire_while<B: Board<Part>, M: ManagerName, R: Wait>(
+    rt: &R,
+    connection: &mut Connection<B, M>,
+    tag: Tag,
+    mode: Mode,
+) -> Answer {
+    let owner = Owner::Transaction;
+    let answer = connection
+        .session
+        .acquire_while(rt, tag, mode, owner, || false);
+    match answer {
+        Ok(Some(acquired)) => answer_of(Ok(acquired)),
+        Ok(None) => Answer::GivenUp,
+        Err(refusal) => refused(refusal),
+    }
+}
+
+/// Lists all holds and waits with `connection`, and answers how many rows there are.
+fn list<B: Board<Part>, M: ManagerName, R: Wait>(
+    rt: &R,
+    connection: &mut Connection<B, M>,
+) -> Answer {
+    match connection.session.list(rt) {
+        Ok(listing) => Answer::Listed {
             fast: listing.fast.len(),
             table: listing.table.len(),
         },
         Err(refusal) => refused(refusal),
-    };
-    (session, answer)
+    }
 }
 
-/// Makes `call` with `session`, which comes back with the answer.
-pub fn make<T: PartTable, B: Board<T>, R: Wait>(
+/// Has `connection` look who is in the way of the session numbered `number`, which waits for `tag`.
+fn blockers<B: Board<Part>, M: ManagerName, R: Wait>(
     rt: &R,
-    session: OwnSession<T, B>,
-    call: Call,
-) -> Answered<T, B>
-    ensures seat { KeepsSeat B.seat session result.0 }
-{
-    match call {
-        Call::Try(tag, mode) => try_lock(rt, session, tag, mode),
-        Call::Fast(tag, mode) => try_fast(session, tag, mode),
-        Call::Start(tag, mode) => start(rt, session, tag, mode),
-        Call::Lock(tag, mode) => {
-            let (session, answer) = session.lock(rt, tag, mode, Owner::Transaction).into_parts();
-            (session, answer_of(answer))
-        }
-        Call::List => list(rt, session),
+    connection: &mut Connection<B, M>,
+    tag: Tag,
+    number: u16,
+) -> Answer {
+    match SessionId::new(number) {
+        Some(waiter) => rows_of(connection.session.blockers(rt, tag, waiter)),
+        None => Answer::Rows(0),
     }
+}
+
+/// Makes `call` with `connection`.
+pub fn make<B: Board<Part>, M: ManagerName, R: Wait>(
+    rt: &R,
+    connection: &mut Connection<B, M>,
+    call: Call,
+) -> Answer {
+    let owner = Owner::Transaction;
+    match call {
+        Call::Try(tag, mode) => answer_of(connection.session.try_lock(rt, tag, mode, owner)),
+        Call::Fast(tag, mode) => answer_of(connection.session.try_fast(tag, mode, owner)),
+        Call::Acquire(tag, mode) => answer_of(connection.session.acquire(rt, tag, mode, owner)),
+        Call::Unlock(tag, mode) => unlocked(connection.session.unlock(rt, tag, mode, owner)),
+        Call::List => list(rt, connection),
+        Call::Queue(tag) => rows_of(connection.session.queue(rt, tag)),
+        Call::Blockers(tag, number) => blockers(rt, connection, tag, number),
+        Call::Waits => rows_of(connection.session.waits(rt)),
+    }
+}
+
+/// Asks `connection`, which comes back with the answer, for what `request` says.
+pub fn ask<B: Board<Part>, M: ManagerName, R: Wait>(
+    rt: &R,
+    mut connection: Connection<B, M>,
+    request: Request,
+) -> Answered<B, M> {
+    let answer = match request {
+        Request::Makes(call) => make(rt, &mut connection, call),
+        Request::While(tag, mode) => acquire_while(rt, &mut connection, tag, mode),
+        Request::Start(tag, mode) => return start(rt, connection, tag, mode),
+        Request::Lock(tag, mode) => return lock(rt, connection, tag, mode),
+    };
+    (connection, answer)
 }

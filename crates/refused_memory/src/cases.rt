@@ -1,7 +1,6 @@
 //! What is run, call by call.
 
-use crate::desk_cases::DeskCase;
-use crate::looks::Look;
+use crate::desk_cases::{DeskCase, PoolCase};
 use crate::parts::PartCall;
 use crate::told::Told;
 use crate::{events, managers, parts};
@@ -13,6 +12,8 @@ use std::sync::Wait;
 pub enum Case<'a> {
     /// A call of `Manager::new`.
     MakesManager,
+    /// A call of `Manager::for_server`.
+    MakesServer,
     /// A call of `Opener::session`.
     OpensSession,
     /// A call of `LocalTable::new`.
@@ -29,14 +30,16 @@ pub enum Case<'a> {
     AtDesk(DeskCase<'a>),
 }
 
-/// Each case but those of sessions, with its name and how many growths its call takes. A manager takes three
-/// for each of 16 partitions, two for each of 32 wait lists (those of a manager of 8 sessions), and five for
-/// the lists of partitions, of slots and of words, and for the table of both. A local table takes one for its
-/// slots, two for their index, and three for the counts of outer levels, a list that grows to 16. A session
-/// takes the growths of a local table and one for a box. The list of an audit's rows grows to four and to
-/// eight.
-pub static CASES: [(&'static str, Case<'static>, u16); 15] = [
+/// Each case but the trials, with its name and how many growths its call takes. A manager takes three for
+/// each of 16 partitions, two for each of its wait lists, which are 32 with 8 sessions and 130 with 65, and
+/// five for the lists of partitions, of slots and of words, and for the table of both. A local table takes
+/// one for its slots, two for their index, and three for the counts of outer levels, a list that grows to
+/// 16. A session takes the growths of a local table and one for a box, and a crew those of its sessions and
+/// one for their list. The list of an audit's rows grows to four and to eight. A pool takes two lists, and
+/// one more for the sessions that it lends to its audit.
+pub static CASES: [(&'static str, Case<'static>, u16); 19] = [
     ("Manager::new", Case::MakesManager, 117),
+    ("Manager::for_server", Case::MakesServer, 313),
     ("Opener::session", Case::OpensSession, 7),
     ("LocalTable::new", Case::MakesLocalTable, 6),
     (
@@ -68,20 +71,23 @@ pub static CASES: [(&'static str, Case<'static>, u16); 15] = [
         Case::AtDesk(DeskCase::Audits),
         2,
     ),
+    ("open_sessions, two", Case::AtDesk(DeskCase::OpensCrew), 15),
+    ("SessionPool::open", Case::AtDesk(DeskCase::Lends), 7),
+    ("Pool::new", Case::AtDesk(DeskCase::MakesPool), 2),
     (
-        "queue, a row",
-        Case::AtDesk(DeskCase::Looks(Look::Queue)),
+        "Pool::open",
+        Case::AtDesk(DeskCase::WithPool(PoolCase::Opens)),
+        7,
+    ),
+    (
+        "Pool::lives",
+        Case::AtDesk(DeskCase::WithPool(PoolCase::Lives)),
         1,
     ),
     (
-        "blockers, a row",
-        Case::AtDesk(DeskCase::Looks(Look::Blockers)),
+        "Pool::audit, nothing held",
+        Case::AtDesk(DeskCase::WithPool(PoolCase::Audits)),
         1,
-    ),
-    (
-        "waits, one with one in its way",
-        Case::AtDesk(DeskCase::Looks(Look::Waits)),
-        3,
     ),
 ];
 
@@ -89,6 +95,7 @@ pub static CASES: [(&'static str, Case<'static>, u16); 15] = [
 pub fn tell<R: Wait>(rt: &R, alloc: Global, case: Case<'_>, growth: u16) -> Told {
     match case {
         Case::MakesManager => managers::make(alloc, growth),
+        Case::MakesServer => managers::make_server(alloc, growth),
         Case::OpensSession => managers::open(rt, alloc, growth),
         Case::MakesLocalTable => parts::new_local(alloc, growth),
         Case::Reserves => parts::reserve(alloc, growth),

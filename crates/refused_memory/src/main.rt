@@ -8,12 +8,12 @@ mod audits;
 mod calls;
 mod cases;
 mod desk_cases;
+mod desks;
 mod events;
 mod lives;
-mod looks;
 mod managers;
-mod pairs;
 mod parts;
+mod pools;
 mod steady;
 mod telling;
 mod told;
@@ -22,14 +22,14 @@ mod trials;
 use allocator::{refuse, was_refused};
 use anyhow::bail;
 use cases::{CASES, Case, tell};
-use desk_cases::DeskCase;
+use desk_cases::{DeskCase, PoolCase};
 use std::alloc::Global;
 use std::sync::Wait;
 use told::Told;
 use trials::TRIALS;
 
 /// How many growths of a call are tried at most.
-const MOST: u16 = 200;
+const MOST: u16 = 400;
 
 /// How many growths of `case` were refused, one in each run, until a run had none left to refuse. `None` if a
 /// run went otherwise than it is to.
@@ -74,7 +74,7 @@ fn tell_all<R: Wait + Print>(rt: &R, alloc: Global, listens: bool) -> anyhow::Re
         tell_in_turn(rt, alloc, listens, name, *case, *growths)?;
     }
     for trial in &TRIALS {
-        let case = Case::AtDesk(DeskCase::Tells(trial));
+        let case = Case::AtDesk(DeskCase::WithPool(PoolCase::Tells(trial)));
         tell_in_turn(rt, alloc, listens, trial.name, case, trial.growths)?;
     }
     Ok(())
@@ -91,7 +91,8 @@ fn main(rt: HostRuntime) -> anyhow::Result<()> {
         println!(rt; "no growth is refused by this allocator")?;
     }
     tell_all(&rt, rt.alloc(), listens)?;
-    if managers::perform(&rt, rt.alloc(), DeskCase::GoesOn, 0) != Told::Answered {
+    let goes_on = DeskCase::WithPool(PoolCase::GoesOn);
+    if managers::perform(&rt, rt.alloc(), goes_on, 0) != Told::Answered {
         bail!("sessions that go on: it went otherwise");
     }
     println!(rt;

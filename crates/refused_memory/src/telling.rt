@@ -1,13 +1,13 @@
-//! Trials that are run at a desk, over any board.
+//! Trials that are run with a pool, over any board.
 
-ghost use Rattle.std.specs.Prelude.{◌≡◌, ◌≤◌};
-ghost use Rattle.lock_manager.specs.Crews.{IsOf, KeepsSeat, SeatsAre};
+ghost use Rattle.std.specs.Prelude.{◌≤◌};
 
 use crate::allocator::{refuse, was_refused};
-use crate::calls::{Answer, end_wait, make, queue};
+use crate::calls::{ask, end_wait, queue};
 use crate::told::Told;
 use crate::trials::{DATABASE, Hold, TABLE, Trial, object};
-use lock_manager::{Board, Desk, Listing, Mode, OwnSession, Owner, PartTable, SlotRow, TableRow};
+use connections::{Connection, ManagerName, Pool};
+use lock_manager::{Board, Desk, Listing, Mode, OwnSession, Owner, Part, SlotRow, TableRow};
 use std::alloc::Global;
 use std::sync::Wait;
 
@@ -52,13 +52,11 @@ fn look_at(listing: &Listing) -> (usize, bool) {
     (rows, in_table <= before_slots(listing.fast.as_slice()))
 }
 
-/// Lists with `session`, and answers what is seen.
-fn see<T: PartTable, B: Board<T>, R: Wait>(rt: &R, session: &mut OwnSession<T, B>) -> Seen
-    ensures seat { KeepsSeat B.seat session.old session.new }
-{
-    let held = session.held(TABLE).mask();
-    let strong = session.strong_count(TABLE.strong_index());
-    let (rows, is_in_order) = match session.list(rt) {
+/// Lists with `connection`, and answers what is seen.
+fn see<B: Board<Part>, M: ManagerName, R: Wait>(rt: &R, connection: &mut Connection<B, M>) -> Seen {
+    let held = connection.session.held(TABLE).mask();
+    let strong = connection.session.strong_count(TABLE.strong_index());
+    let (rows, is_in_order) = match connection.session.list(rt) {
         Ok(listing) => look_at(&listing),
         Err(_) => (0, false),
     };
@@ -70,132 +68,135 @@ fn see<T: PartTable, B: Board<T>, R: Wait>(rt: &R, session: &mut OwnSession<T, B
     }
 }
 
-/// Takes a mode with `session` on an object of its own for each number below `number`.
-fn take_own<T: PartTable, B: Board<T>, R: Wait>(rt: &R, session: &mut OwnSession<T, B>, number: u32)
-    ensures seat { KeepsSeat B.seat session.old session.new }
-{
+/// Takes a mode with `connection` on an object of its own for each number below `number`.
+fn take_own<B: Board<Part>, M: ManagerName, R: Wait>(
+    rt: &R,
+    connection: &mut Connection<B, M>,
+    number: u32,
+) {
     'own: for place in 0..number {
-        let _answer = session.try_lock(rt, object(place), Mode::RowShare, Owner::Session);
+        let _answer = connection
+            .session
+            .try_lock(rt, object(place), Mode::RowShare, Owner::Session);
     }
 }
 
-/// Makes the call of `trial` with `session` and the growth numbered `growth` refused, and once more after a
-/// refusal.
-fn ask<T: PartTable, B: Board<T>, R: Wait>(
+/// Asks `connection` for the request of `trial` with the growth numbered `growth` refused, and once more
+/// after a refusal.
+fn ask_twice<B: Board<Part>, M: ManagerName, R: Wait>(
     rt: &R,
     alloc: Global,
-    session: OwnSession<T, B>,
+    connection: Connection<B, M>,
     trial: &Trial,
     growth: u16,
-) -> (OwnSession<T, B>, Told)
-    ensures seat { KeepsSeat B.seat session result.0 }
-{
-    let mut session = session;
-    let before = see(rt, &mut session);
+) -> (Connection<B, M>, Told) {
+    let mut connection = connection;
+    let before = see(rt, &mut connection);
     refuse(alloc, growth);
-    let (mut session, answer) = make(rt, session, trial.call);
+    let (mut connection, answer) = ask(rt, connection, trial.request);
     let refused = was_refused(alloc);
     if !refused {
         return (
-            session,
+            connection,
             Told::of(false, answer.ran_out(), answer == trial.answer),
         );
     }
-    let same = see(rt, &mut session) == before;
-    let (session, again) = make(rt, session, trial.call);
+    let same = see(rt, &mut connection) == before;
+    let (connection, again) = ask(rt, connection, trial.request);
     let is_right = same && again == trial.answer;
-    (session, Told::of(true, answer.ran_out(), is_right))
+    (connection, Told::of(true, answer.ran_out(), is_right))
 }
 
-/// Opens at `desk` `waiters` sessions, each of which waits for an object that `session`, the asking one of
-/// `trial`, has, or all for the awaited object of `trial`. Once all of them wait, `session` asks, with the
-/// growth numbered `growth` refused.
-fn with_waiters<T: PartTable, B: Board<T>, D: Desk<OwnSession<T, B>>, R: Wait>(
+/// Opens with `pool` `waiters` connections, each of which waits for an object that `connection`, the asking
+/// one of `trial`, has, or all for the awaited object of `trial`. Once all of them wait, `connection` asks,
+/// with the growth numbered `growth` refused.
+fn with_waiters<B: Board<Part>, D: Desk<OwnSession<Part, B>>, M: ManagerName, R: Wait>(
     rt: &R,
     alloc: Global,
-    desk: &mut D,
-    session: OwnSession<T, B>,
+    pool: &mut Pool<B, D, M>,
+    connection: Connection<B, M>,
     trial: &Trial,
     waiters: u32,
     growth: u16,
-) -> (OwnSession<T, B>, Told)
-    requires seats { SeatsAre B.seat D.seat }
-    ensures seat { KeepsSeat B.seat session result.0 }
-    ensures manager { D.manager desk.new ≡ D.manager desk.old }
-{
+) -> (Connection<B, M>, Told) {
     if waiters == 0 {
-        return ask(rt, alloc, session, trial, growth);
+        return ask_twice(rt, alloc, connection, trial, growth);
     }
-    let Ok(waiter) = desk.open(DATABASE) else {
-        return (session, Told::Otherwise);
+    let Ok(waiter) = pool.open(rt, DATABASE) else {
+        return (connection, Told::Otherwise);
     };
     let awaited = trial.awaited.unwrap_or(object(waiters - 1));
     match queue(rt, waiter, awaited) {
         Ok(waiting) => {
-            let answered = with_waiters(rt, alloc, desk, session, trial, waiters - 1, growth);
-            desk.close(rt, end_wait(rt, waiting));
+            let answered = with_waiters(rt, alloc, pool, connection, trial, waiters - 1, growth);
+            pool.close(rt, end_wait(rt, waiting));
             answered
         }
         Err(waiter) => {
-            desk.close(rt, waiter);
-            (session, Told::Otherwise)
+            pool.close(rt, waiter);
+            (connection, Told::Otherwise)
         }
     }
 }
 
-/// Takes `hold`, if there is one, with `session`, and answers whether the session has it.
-fn take<T: PartTable, B: Board<T>, R: Wait>(
+/// Takes `hold`, if there is one, with `connection`, and answers whether the connection has it.
+fn take<B: Board<Part>, M: ManagerName, R: Wait>(
     rt: &R,
-    session: &mut OwnSession<T, B>,
+    connection: &mut Connection<B, M>,
     hold: Option<Hold>,
-) -> bool
-    ensures seat { KeepsSeat B.seat session.old session.new }
-{
+) -> bool {
     match hold {
-        Some((tag, mode)) => session.try_lock(rt, tag, mode, Owner::Transaction).is_ok(),
+        Some((tag, mode)) => connection
+            .session
+            .try_lock(rt, tag, mode, Owner::Transaction)
+            .is_ok(),
         None => true,
     }
 }
 
-/// Opens at `desk` the other sessions of `trial` from `place` on, which take what they are to have, and after
-/// them the asking one, which takes its own objects and asks with the growth numbered `growth` refused.
-fn with_others<T: PartTable, B: Board<T>, D: Desk<OwnSession<T, B>>, R: Wait>(
+/// Opens with `pool` the other connections of `trial` from `place` on, which take what they are to have, and
+/// after them the asking one, which takes its own objects and asks with the growth numbered `growth`
+/// refused.
+fn with_others<B: Board<Part>, D: Desk<OwnSession<Part, B>>, M: ManagerName, R: Wait>(
     rt: &R,
     alloc: Global,
-    desk: &mut D,
+    pool: &mut Pool<B, D, M>,
     trial: &Trial,
     place: usize,
     growth: u16,
 ) -> Told
-    requires seats { SeatsAre B.seat D.seat }
     requires place { place ≤ 3 }
-    ensures manager { D.manager desk.new ≡ D.manager desk.old }
 {
-    let Ok(mut session) = desk.open(DATABASE) else {
+    let Ok(mut connection) = pool.open(rt, DATABASE) else {
         return Told::Otherwise;
     };
     if place == 3 {
-        take_own(rt, &mut session, trial.own);
-        let (session, told) = with_waiters(rt, alloc, desk, session, trial, trial.waiters, growth);
-        desk.close(rt, session);
+        take_own(rt, &mut connection, trial.own);
+        let (connection, told) = with_waiters(
+            rt,
+            alloc,
+            pool,
+            connection,
+            trial,
+            trial.waiters,
+            growth,
+        );
+        pool.close(rt, connection);
         return told;
     }
-    let has = take(rt, &mut session, trial.others[place]);
-    let told = with_others(rt, alloc, desk, trial, place + 1, growth);
-    desk.close(rt, session);
+    let has = take(rt, &mut connection, trial.others[place]);
+    let told = with_others(rt, alloc, pool, trial, place + 1, growth);
+    pool.close(rt, connection);
     if has { told } else { Told::Otherwise }
 }
 
-/// Runs `trial` at `desk`, which has nothing yet, with the growth numbered `growth` refused.
-pub fn tell<T: PartTable, B: Board<T>, D: Desk<OwnSession<T, B>>, R: Wait>(
+/// Runs `trial` with `pool`, which has nothing yet, with the growth numbered `growth` refused.
+pub fn tell<B: Board<Part>, D: Desk<OwnSession<Part, B>>, M: ManagerName, R: Wait>(
     rt: &R,
     alloc: Global,
-    desk: &mut D,
+    pool: &mut Pool<B, D, M>,
     trial: &Trial,
     growth: u16,
-) -> Told
-    requires seats { SeatsAre B.seat D.seat }
-    ensures manager { D.manager desk.new ≡ D.manager desk.old }
-{
-    with_others(rt, alloc, desk, trial, 0, growth)
+) -> Told {
+    with_others(rt, alloc, pool, trial, 0, growth)
 }

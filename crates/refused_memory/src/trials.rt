@@ -1,6 +1,6 @@
 //! What is run with sessions: who has what, what is asked for then, and how many growths that takes.
 
-use crate::calls::{Answer, Call};
+use crate::calls::{Answer, Call, Request};
 use lock_manager::Mode::{AccessExclusive, AccessShare, Exclusive, RowExclusive, Share};
 use lock_manager::{Mode, Tag};
 
@@ -23,9 +23,9 @@ pub struct Trial {
     pub waiters: u32,
     /// The one object that all waiters of the trial wait for. `None` where each waits for a different one.
     pub awaited: Option<Tag>,
-    pub call: Call,
+    pub request: Request,
     pub answer: Answer,
-    /// How many growths the call of the trial takes.
+    /// How many growths the request of the trial takes.
     pub growths: u16,
 }
 
@@ -79,7 +79,7 @@ const ONE: [Option<Hold>; 3] = [Some((OBJECT, Exclusive)), None, None];
 const ONE_OF_MANY: [Option<Hold>; 3] = [Some((MANY, Exclusive)), None, None];
 
 /// The trials that are run with sessions.
-pub static TRIALS: [Trial; 16] = [
+pub static TRIALS: [Trial; 22] = [
     // Five in a partition that has had nothing yet: a lock record, a holder record, a queue record, a queue,
     // and a name among those woken.
     Trial {
@@ -88,7 +88,7 @@ pub static TRIALS: [Trial; 16] = [
         own: 0,
         waiters: 0,
         awaited: None,
-        call: Call::Try(OBJECT, Exclusive),
+        request: Request::Makes(Call::Try(OBJECT, Exclusive)),
         answer: Answer::Granted,
         growths: 5,
     },
@@ -99,7 +99,7 @@ pub static TRIALS: [Trial; 16] = [
         own: 16,
         waiters: 0,
         awaited: None,
-        call: Call::Try(OBJECT, Exclusive),
+        request: Request::Makes(Call::Try(OBJECT, Exclusive)),
         answer: Answer::Granted,
         growths: 9,
     },
@@ -111,7 +111,7 @@ pub static TRIALS: [Trial; 16] = [
         own: 16,
         waiters: 0,
         awaited: None,
-        call: Call::Try(MANY, Exclusive),
+        request: Request::Makes(Call::Try(MANY, Exclusive)),
         answer: Answer::Granted,
         growths: 8,
     },
@@ -121,7 +121,7 @@ pub static TRIALS: [Trial; 16] = [
         own: 16,
         waiters: 0,
         awaited: None,
-        call: Call::Try(TABLE, AccessShare),
+        request: Request::Makes(Call::Try(TABLE, AccessShare)),
         answer: Answer::Granted,
         growths: 4,
     },
@@ -134,7 +134,7 @@ pub static TRIALS: [Trial; 16] = [
         own: 0,
         waiters: 0,
         awaited: None,
-        call: Call::Try(TABLE, AccessExclusive),
+        request: Request::Makes(Call::Try(TABLE, AccessExclusive)),
         answer: Answer::Conflict(0, AccessShare),
         growths: 5,
     },
@@ -144,7 +144,7 @@ pub static TRIALS: [Trial; 16] = [
         own: 1,
         waiters: 0,
         awaited: None,
-        call: Call::Try(TABLE, AccessExclusive),
+        request: Request::Makes(Call::Try(TABLE, AccessExclusive)),
         answer: Answer::Conflict(0, AccessShare),
         growths: 1,
     },
@@ -154,7 +154,7 @@ pub static TRIALS: [Trial; 16] = [
         own: 2,
         waiters: 0,
         awaited: None,
-        call: Call::Try(TABLE, AccessExclusive),
+        request: Request::Makes(Call::Try(TABLE, AccessExclusive)),
         answer: Answer::Conflict(0, AccessShare),
         growths: 1,
     },
@@ -164,7 +164,7 @@ pub static TRIALS: [Trial; 16] = [
         own: 3,
         waiters: 0,
         awaited: None,
-        call: Call::Try(TABLE, AccessExclusive),
+        request: Request::Makes(Call::Try(TABLE, AccessExclusive)),
         answer: Answer::Conflict(0, AccessShare),
         growths: 2,
     },
@@ -174,7 +174,7 @@ pub static TRIALS: [Trial; 16] = [
         own: 16,
         waiters: 0,
         awaited: None,
-        call: Call::Fast(TABLE, RowExclusive),
+        request: Request::Makes(Call::Fast(TABLE, RowExclusive)),
         answer: Answer::Granted,
         growths: 4,
     },
@@ -184,7 +184,7 @@ pub static TRIALS: [Trial; 16] = [
         own: 0,
         waiters: 0,
         awaited: None,
-        call: Call::Start(OBJECT, Share),
+        request: Request::Start(OBJECT, Share),
         answer: Answer::Granted,
         growths: 5,
     },
@@ -195,7 +195,7 @@ pub static TRIALS: [Trial; 16] = [
         own: 3,
         waiters: 0,
         awaited: None,
-        call: Call::Start(MANY, Share),
+        request: Request::Start(MANY, Share),
         answer: Answer::Queued,
         growths: 2,
     },
@@ -207,7 +207,7 @@ pub static TRIALS: [Trial; 16] = [
         own: 4,
         waiters: 4,
         awaited: None,
-        call: Call::Start(MANY, Share),
+        request: Request::Start(MANY, Share),
         answer: Answer::Queued,
         growths: 3,
     },
@@ -219,7 +219,7 @@ pub static TRIALS: [Trial; 16] = [
         own: 0,
         waiters: 4,
         awaited: Some(MANY),
-        call: Call::Start(MANY, Share),
+        request: Request::Start(MANY, Share),
         answer: Answer::Queued,
         growths: 2,
     },
@@ -229,9 +229,40 @@ pub static TRIALS: [Trial; 16] = [
         own: 16,
         waiters: 0,
         awaited: None,
-        call: Call::Lock(OBJECT, Share),
+        request: Request::Lock(OBJECT, Share),
         answer: Answer::Granted,
         growths: 9,
+    },
+    Trial {
+        name: "acquire, granted",
+        others: NOBODY,
+        own: 16,
+        waiters: 0,
+        awaited: None,
+        request: Request::Makes(Call::Acquire(OBJECT, Share)),
+        answer: Answer::Granted,
+        growths: 9,
+    },
+    Trial {
+        name: "acquire_while, granted",
+        others: NOBODY,
+        own: 16,
+        waiters: 0,
+        awaited: None,
+        request: Request::While(OBJECT, Share),
+        answer: Answer::Granted,
+        growths: 9,
+    },
+    // As where a start is queued.
+    Trial {
+        name: "acquire_while, given up",
+        others: ONE_OF_MANY,
+        own: 3,
+        waiters: 0,
+        awaited: None,
+        request: Request::While(MANY, Share),
+        answer: Answer::GivenUp,
+        growths: 2,
     },
     Trial {
         name: "lock, a conflict for a conditional one",
@@ -239,7 +270,7 @@ pub static TRIALS: [Trial; 16] = [
         own: 0,
         waiters: 0,
         awaited: None,
-        call: Call::Try(OBJECT, Share),
+        request: Request::Makes(Call::Try(OBJECT, Share)),
         answer: Answer::Conflict(0, Exclusive),
         growths: 0,
     },
@@ -250,8 +281,39 @@ pub static TRIALS: [Trial; 16] = [
         own: 16,
         waiters: 0,
         awaited: None,
-        call: Call::List,
-        answer: Answer::Rows { fast: 3, table: 16 },
+        request: Request::Makes(Call::List),
+        answer: Answer::Listed { fast: 3, table: 16 },
         growths: 4,
+    },
+    // One waits for the object of the first one, and the asking session looks at that.
+    Trial {
+        name: "queue, a row",
+        others: ONE,
+        own: 0,
+        waiters: 1,
+        awaited: Some(OBJECT),
+        request: Request::Makes(Call::Queue(OBJECT)),
+        answer: Answer::Rows(1),
+        growths: 1,
+    },
+    Trial {
+        name: "blockers, a row",
+        others: ONE,
+        own: 0,
+        waiters: 1,
+        awaited: Some(OBJECT),
+        request: Request::Makes(Call::Blockers(OBJECT, 4)),
+        answer: Answer::Rows(1),
+        growths: 1,
+    },
+    Trial {
+        name: "waits, one with one in its way",
+        others: ONE,
+        own: 0,
+        waiters: 1,
+        awaited: Some(OBJECT),
+        request: Request::Makes(Call::Waits),
+        answer: Answer::Rows(1),
+        growths: 3,
     },
 ];

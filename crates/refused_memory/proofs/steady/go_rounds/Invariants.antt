@@ -1,8 +1,0 @@
-use Rattle.std.proofs.Common.{◌≡◌}
-use Rattle.refused_memory.proofs.steady.go_rounds.Given as goal
-
-abbrev pub invariant-rounds : goal.invariant-rounds
-invariant-rounds g l = record {
-  first : g.B.Board.seat l.first.board ≡ g.B.Board.seat l.fn.first.board;
-  second : g.B.Board.seat l.second.board ≡ g.B.Board.seat l.fn.second.board;
-}
