@@ -49,218 +49,72 @@ pub struct CommandRow {
     pub may_wait: bool,
 }
 
+/// Rows of commands, each with the verb, the kinds of the words behind it, their form, whether the command
+/// acts, only looks or may wait, and its help, on one line or two.
+macro_rules! rows {
+    ($($verb:literal [$($kind:ident)*] $form:literal $does:ident $help:literal $($below:literal)?;)+) => {
+        [$(CommandRow {
+            verb: $verb,
+            kinds: &[$(WordKind::$kind),*],
+            form: $form,
+            help: $help,
+            help_below: below!($($below)?),
+            looks: looks!($does),
+            may_wait: may_wait!($does),
+        }),+]
+    };
+}
+
+/// The second line of a help.
+macro_rules! below {
+    () => { "" };
+    ($below:literal) => { $below };
+}
+
+/// Whether a command only looks.
+macro_rules! looks {
+    (looks) => { true };
+    ($does:ident) => { false };
+}
+
+/// Whether a command may wait.
+macro_rules! may_wait {
+    (may_wait) => { true };
+    ($does:ident) => { false };
+}
+
 /// All commands of the language of scripts, in the order of the help.
-static COMMANDS: [CommandRow; 21] = [
-    CommandRow {
-        verb: "session",
-        kinds: &[WordKind::FreeName, WordKind::Number],
-        form: "NAME DB",
-        help: "open a session of a database",
-        help_below: "",
-        looks: false,
-        may_wait: false,
-    },
-    CommandRow {
-        verb: "name",
-        kinds: &[WordKind::FreeObjectName, WordKind::FreeTag],
-        form: "OBJECT TAG",
-        help: "give an object a name, which stands for its tag",
-        help_below: "",
-        looks: false,
-        may_wait: false,
-    },
-    CommandRow {
-        verb: "try",
-        kinds: &[
-            WordKind::CallerName,
-            WordKind::TagWord,
-            WordKind::ModeName,
-            WordKind::OwnerWord,
-        ],
-        form: "NAME TAG MODE [session]",
-        help: "take a lock, if nothing is in the way",
-        help_below: "",
-        looks: false,
-        may_wait: false,
-    },
-    CommandRow {
-        verb: "fast",
-        kinds: &[
-            WordKind::CallerName,
-            WordKind::TagWord,
-            WordKind::ModeName,
-            WordKind::OwnerWord,
-        ],
-        form: "NAME TAG MODE [session]",
-        help: "take a lock by a fast-path slot, or not at all",
-        help_below: "",
-        looks: false,
-        may_wait: false,
-    },
-    CommandRow {
-        verb: "lock",
-        kinds: &[
-            WordKind::CallerName,
-            WordKind::TagWord,
-            WordKind::ModeName,
-            WordKind::OwnerWord,
-        ],
-        form: "NAME TAG MODE [session]",
-        help: "take a lock, and wait for it if need be",
-        help_below: "",
-        looks: false,
-        may_wait: true,
-    },
-    CommandRow {
-        verb: "unlock",
-        kinds: &[
-            WordKind::CallerName,
-            WordKind::TagWord,
-            WordKind::ModeName,
-            WordKind::OwnerWord,
-        ],
-        form: "NAME TAG MODE [session]",
-        help: "give one count of a lock back",
-        help_below: "",
-        looks: false,
-        may_wait: false,
-    },
-    CommandRow {
-        verb: "unlock_all",
-        kinds: &[WordKind::CallerName],
-        form: "NAME",
-        help: "give back all advisory locks of the session",
-        help_below: "",
-        looks: false,
-        may_wait: false,
-    },
-    CommandRow {
-        verb: "commit",
-        kinds: &[WordKind::CallerName],
-        form: "NAME",
-        help: "drop what the transaction owns",
-        help_below: "",
-        looks: false,
-        may_wait: false,
-    },
-    CommandRow {
-        verb: "abort",
-        kinds: &[WordKind::CallerName],
-        form: "NAME",
-        help: "drop what the transaction and the session own,",
-        help_below: "but for the session's advisory locks",
-        looks: false,
-        may_wait: false,
-    },
-    CommandRow {
-        verb: "begin",
-        kinds: &[WordKind::CallerName],
-        form: "NAME",
-        help: "begin a level of the transaction, a savepoint",
-        help_below: "",
-        looks: false,
-        may_wait: false,
-    },
-    CommandRow {
-        verb: "subcommit",
-        kinds: &[WordKind::CallerName],
-        form: "NAME",
-        help: "end it; what it owns goes to the level outside",
-        help_below: "",
-        looks: false,
-        may_wait: false,
-    },
-    CommandRow {
-        verb: "subabort",
-        kinds: &[WordKind::CallerName],
-        form: "NAME",
-        help: "end it, and drop what it owns",
-        help_below: "",
-        looks: false,
-        may_wait: false,
-    },
-    CommandRow {
-        verb: "owned",
-        kinds: &[WordKind::CallerName, WordKind::TagWord, WordKind::ModeName],
-        form: "NAME TAG MODE",
-        help: "say how often each of the two owns a lock: the",
-        help_below: "transaction's innermost level, and the session",
-        looks: true,
-        may_wait: false,
-    },
-    CommandRow {
-        verb: "waiters",
-        kinds: &[WordKind::CallerName, WordKind::TagWord, WordKind::ModeName],
-        form: "NAME TAG MODE",
-        help: "say whether somebody awaits a conflicting mode",
-        help_below: "",
-        looks: true,
-        may_wait: false,
-    },
-    CommandRow {
-        verb: "queue",
-        kinds: &[WordKind::CallerName, WordKind::TagWord],
-        form: "NAME TAG",
-        help: "list who waits for an object, in order",
-        help_below: "",
-        looks: true,
-        may_wait: false,
-    },
-    CommandRow {
-        verb: "blockers",
-        kinds: &[WordKind::CallerName, WordKind::OpenName, WordKind::TagWord],
-        form: "NAME OTHER TAG",
-        help: "list who is in the way of one that waits",
-        help_below: "",
-        looks: true,
-        may_wait: false,
-    },
-    CommandRow {
-        verb: "cancel",
-        kinds: &[WordKind::CallerName, WordKind::OpenName],
-        form: "BY NAME",
-        help: "ask a session to stop waiting",
-        help_below: "",
-        looks: false,
-        may_wait: false,
-    },
-    CommandRow {
-        verb: "list",
-        kinds: &[WordKind::CallerName],
-        form: "NAME",
-        help: "list all locks",
-        help_below: "",
-        looks: true,
-        may_wait: false,
-    },
-    CommandRow {
-        verb: "count",
-        kinds: &[WordKind::CallerName, WordKind::CounterIndex],
-        form: "NAME INDEX",
-        help: "say what a strong lock counter shows",
-        help_below: "",
-        looks: true,
-        may_wait: false,
-    },
-    CommandRow {
-        verb: "hash",
-        kinds: &[WordKind::TagWord],
-        form: "TAG",
-        help: "say a tag's hash, partition and counter",
-        help_below: "",
-        looks: true,
-        may_wait: false,
-    },
-    CommandRow {
-        verb: "close",
-        kinds: &[WordKind::CallerName],
-        form: "NAME",
-        help: "close a session",
-        help_below: "",
-        looks: false,
-        may_wait: false,
-    },
-];
+static COMMANDS: [CommandRow; 21] = rows! {
+    "session" [FreeName Number] "NAME DB" acts "open a session of a database";
+    "name" [FreeObjectName FreeTag] "OBJECT TAG" acts "give an object a name, which stands for its tag";
+    "try" [CallerName TagWord ModeName OwnerWord] "NAME TAG MODE [session]" acts
+        "take a lock, if nothing is in the way";
+    "fast" [CallerName TagWord ModeName OwnerWord] "NAME TAG MODE [session]" acts
+        "take a lock by a fast-path slot, or not at all";
+    "lock" [CallerName TagWord ModeName OwnerWord] "NAME TAG MODE [session]" may_wait
+        "take a lock, and wait for it if need be";
+    "unlock" [CallerName TagWord ModeName OwnerWord] "NAME TAG MODE [session]" acts
+        "give one count of a lock back";
+    "unlock_all" [CallerName] "NAME" acts "give back all advisory locks of the session";
+    "commit" [CallerName] "NAME" acts "drop what the transaction owns";
+    "abort" [CallerName] "NAME" acts
+        "drop what the transaction and the session own," "but for the session's advisory locks";
+    "begin" [CallerName] "NAME" acts "begin a level of the transaction, a savepoint";
+    "subcommit" [CallerName] "NAME" acts "end it; what it owns goes to the level outside";
+    "subabort" [CallerName] "NAME" acts "end it, and drop what it owns";
+    "owned" [CallerName TagWord ModeName] "NAME TAG MODE" looks
+        "say how often each of the two owns a lock: the" "transaction's innermost level, and the session";
+    "waiters" [CallerName TagWord ModeName] "NAME TAG MODE" looks
+        "say whether somebody awaits a conflicting mode";
+    "queue" [CallerName TagWord] "NAME TAG" looks "list who waits for an object, in order";
+    "blockers" [CallerName OpenName TagWord] "NAME OTHER TAG" looks
+        "list who is in the way of one that waits";
+    "cancel" [CallerName OpenName] "BY NAME" acts "ask a session to stop waiting";
+    "list" [CallerName] "NAME" looks "list all locks";
+    "count" [CallerName CounterIndex] "NAME INDEX" looks "say what a strong lock counter shows";
+    "hash" [TagWord] "TAG" looks "say a tag's hash, partition and counter";
+    "close" [CallerName] "NAME" acts "close a session";
+};
 
 /// All commands of the language of scripts, in the order of the help.
 pub fn command_rows() -> &'static [CommandRow]

@@ -40,7 +40,7 @@ const DEFAULT_GROUPS_SHOWN: &str = "1";
 pub const PROGRAM: &str = "lock_scenario";
 
 /// The version that `--version` shows.
-pub const VERSION: &str = "0.1.0";
+pub const VERSION: &str = "0.2.0";
 
 /// What `--help` says in its first line.
 pub const ABOUT: &str = "Run scripts against PostgreSQL's lock manager";

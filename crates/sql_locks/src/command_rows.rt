@@ -3,636 +3,129 @@
 use crate::commands::SqlCommand;
 use crate::forms::{Form, Start};
 
+/// Rows of commands. Each has its SQL, its form, the side of which its lock mode is told, and its note.
+macro_rules! command_rows {
+    ($($sql:literal $form:ident $side:ident $note:literal;)+) => {
+        [$(SqlCommand { sql: $sql, form: Form::$form, side: Start::$side, note: $note }),+]
+    };
+}
+
 /// The SQL commands, each with the form of its statements.
-pub static COMMANDS: [SqlCommand; 105] = [
-    SqlCommand {
-        sql: "SELECT",
-        form: Form::Select,
-        side: Start::Target,
-        note: "",
-    },
-    SqlCommand {
-        sql: "SELECT FOR UPDATE",
-        form: Form::SelectForUpdate,
-        side: Start::Target,
-        note: "",
-    },
-    SqlCommand {
-        sql: "SELECT FOR NO KEY UPDATE",
-        form: Form::SelectForUpdate,
-        side: Start::Target,
-        note: "",
-    },
-    SqlCommand {
-        sql: "SELECT FOR SHARE",
-        form: Form::SelectForUpdate,
-        side: Start::Target,
-        note: "",
-    },
-    SqlCommand {
-        sql: "SELECT FOR KEY SHARE",
-        form: Form::SelectForUpdate,
-        side: Start::Target,
-        note: "",
-    },
-    SqlCommand {
-        sql: "SELECT NEXTVAL",
-        form: Form::Nextval,
-        side: Start::Target,
-        note: " on the sequence",
-    },
-    SqlCommand {
-        sql: "COPY TO",
-        form: Form::CopyTo,
-        side: Start::Target,
-        note: "",
-    },
-    SqlCommand {
-        sql: "COPY FROM",
-        form: Form::CopyFrom,
-        side: Start::Target,
-        note: "",
-    },
-    SqlCommand {
-        sql: "PG_DUMP",
-        form: Form::LockAccessShare,
-        side: Start::Target,
-        note: "",
-    },
-    SqlCommand {
-        sql: "INSERT",
-        form: Form::Insert,
-        side: Start::Target,
-        note: "",
-    },
-    SqlCommand {
-        sql: "INSERT",
-        form: Form::CheckReferred,
-        side: Start::Target,
-        note: " on the table that a foreign key refers to",
-    },
-    SqlCommand {
-        sql: "UPDATE",
-        form: Form::Update,
-        side: Start::Target,
-        note: "",
-    },
-    SqlCommand {
-        sql: "UPDATE",
-        form: Form::CheckReferred,
-        side: Start::Target,
-        note: " on the table that a changed foreign key refers to, or that refers to a changed key",
-    },
-    SqlCommand {
-        sql: "DELETE",
-        form: Form::Delete,
-        side: Start::Target,
-        note: "",
-    },
-    SqlCommand {
-        sql: "DELETE",
-        form: Form::CheckReferring,
-        side: Start::Target,
-        note: " on a table that refers to it, RowExclusiveLock where that cascades",
-    },
-    SqlCommand {
-        sql: "MERGE",
-        form: Form::Merge,
-        side: Start::Target,
-        note: "",
-    },
-    SqlCommand {
-        sql: "VACUUM",
-        form: Form::Vacuum,
-        side: Start::Target,
-        note: "",
-    },
-    SqlCommand {
-        sql: "VACUUM FULL",
-        form: Form::VacuumFull,
-        side: Start::Target,
-        note: "",
-    },
-    SqlCommand {
-        sql: "ANALYZE",
-        form: Form::Analyze,
-        side: Start::Target,
-        note: "",
-    },
-    SqlCommand {
-        sql: "CREATE STATISTICS",
-        form: Form::CreateStatistics,
-        side: Start::Target,
-        note: "",
-    },
-    SqlCommand {
-        sql: "DROP STATISTICS",
-        form: Form::DropStatistics,
-        side: Start::Target,
-        note: "",
-    },
-    SqlCommand {
-        sql: "COMMENT ON TABLE",
-        form: Form::CommentOnTable,
-        side: Start::Target,
-        note: ", and so on a column or a view",
-    },
-    SqlCommand {
-        sql: "COMMENT ON CONSTRAINT",
-        form: Form::CommentOnConstraint,
-        side: Start::Target,
-        note: ", and so on a trigger, a rule or a policy",
-    },
-    SqlCommand {
-        sql: "CREATE PUBLICATION FOR TABLE",
-        form: Form::PublishTable,
-        side: Start::Target,
-        note: "",
-    },
-    SqlCommand {
-        sql: "ALTER PUBLICATION",
-        form: Form::PublishTable,
-        side: Start::Target,
-        note: " on the tables that it names",
-    },
-    SqlCommand {
-        sql: "CREATE INDEX",
-        form: Form::CreateIndex,
-        side: Start::Target,
-        note: "",
-    },
-    SqlCommand {
-        sql: "CREATE INDEX CONCURRENTLY",
-        form: Form::CreateIndexConcurrently,
-        side: Start::Target,
-        note: " session, and waits until each writer's transaction has ended",
-    },
-    SqlCommand {
-        sql: "CREATE TRIGGER",
-        form: Form::CreateTrigger,
-        side: Start::Target,
-        note: "",
-    },
-    SqlCommand {
-        sql: "ALTER TRIGGER",
-        form: Form::AlterTrigger,
-        side: Start::Target,
-        note: "",
-    },
-    SqlCommand {
-        sql: "DROP TRIGGER",
-        form: Form::DropTrigger,
-        side: Start::Target,
-        note: "",
-    },
-    SqlCommand {
-        sql: "CREATE RULE",
-        form: Form::CreateRule,
-        side: Start::Target,
-        note: ", and so ALTER RULE, DROP RULE",
-    },
-    SqlCommand {
-        sql: "CREATE POLICY",
-        form: Form::CreatePolicy,
-        side: Start::Target,
-        note: ", and so ALTER POLICY, DROP POLICY",
-    },
-    SqlCommand {
-        sql: "ALTER RULE",
-        form: Form::AlterRule,
-        side: Start::Target,
-        note: "",
-    },
-    SqlCommand {
-        sql: "DROP RULE",
-        form: Form::DropRule,
-        side: Start::Target,
-        note: "",
-    },
-    SqlCommand {
-        sql: "ALTER POLICY",
-        form: Form::AlterPolicy,
-        side: Start::Target,
-        note: "",
-    },
-    SqlCommand {
-        sql: "DROP POLICY",
-        form: Form::DropPolicy,
-        side: Start::Target,
-        note: "",
-    },
-    SqlCommand {
-        sql: "CREATE TABLE REFERENCES",
-        form: Form::CreateTableReferences,
-        side: Start::Other,
-        note: " on the table that it refers to",
-    },
-    SqlCommand {
-        sql: "CREATE TABLE PARTITION OF",
-        form: Form::CreateTablePartitionOf,
-        side: Start::Other,
-        note: " on the parent and a default partition",
-    },
-    SqlCommand {
-        sql: "CREATE TABLE INHERITS",
-        form: Form::CreateTableInherits,
-        side: Start::Other,
-        note: " on the parent",
-    },
-    SqlCommand {
-        sql: "CREATE VIEW",
-        form: Form::ReadDefinition,
-        side: Start::Target,
-        note: " on its tables, and AccessExclusiveLock on the view",
-    },
-    SqlCommand {
-        sql: "ALTER VIEW",
-        form: Form::AlterView,
-        side: Start::Target,
-        note: " on the view",
-    },
-    SqlCommand {
-        sql: "DROP VIEW",
-        form: Form::DropView,
-        side: Start::Target,
-        note: " on the view",
-    },
-    SqlCommand {
-        sql: "ALTER SEQUENCE",
-        form: Form::AlterSequence,
-        side: Start::Target,
-        note: ", in most forms; AccessExclusiveLock with RENAME, OWNER TO, SET SCHEMA",
-    },
-    SqlCommand {
-        sql: "DROP SEQUENCE",
-        form: Form::DropSequence,
-        side: Start::Target,
-        note: "",
-    },
-    SqlCommand {
-        sql: "REINDEX",
-        form: Form::ReindexTable,
-        side: Start::Target,
-        note: ", and AccessExclusiveLock on the index",
-    },
-    SqlCommand {
-        sql: "REINDEX CONCURRENTLY",
-        form: Form::ReindexTableConcurrently,
-        side: Start::Target,
-        note: " session, and waits until each transaction that uses the table has ended",
-    },
-    SqlCommand {
-        sql: "ALTER INDEX",
-        form: Form::AlterIndex,
-        side: Start::Target,
-        note: " on the index, in most forms",
-    },
-    SqlCommand {
-        sql: "ALTER INDEX ATTACH PARTITION",
-        form: Form::AttachIndex,
-        side: Start::Target,
-        note: " on the parent's, AccessExclusiveLock on the one attached, AccessShareLock on both tables",
-    },
-    SqlCommand {
-        sql: "ALTER INDEX SET TABLESPACE",
-        form: Form::AlterIndexTablespace,
-        side: Start::Target,
-        note: " on the index, and copies it",
-    },
-    SqlCommand {
-        sql: "DROP INDEX",
-        form: Form::DropIndex,
-        side: Start::Target,
-        note: "",
-    },
-    SqlCommand {
-        sql: "DROP INDEX CONCURRENTLY",
-        form: Form::DropIndexConcurrently,
-        side: Start::Target,
-        note: " session, and waits until each transaction that uses the table has ended",
-    },
-    SqlCommand {
-        sql: "DROP TABLE",
-        form: Form::DropTable,
-        side: Start::Target,
-        note: ", also on a partition's parent, and on both tables of a foreign key",
-    },
-    SqlCommand {
-        sql: "TRUNCATE",
-        form: Form::Truncate,
-        side: Start::Target,
-        note: ", with CASCADE on the tables that refer to it too",
-    },
-    SqlCommand {
-        sql: "CLUSTER",
-        form: Form::Cluster,
-        side: Start::Target,
-        note: "",
-    },
-    SqlCommand {
-        sql: "REFRESH MATERIALIZED VIEW",
-        form: Form::RefreshMaterializedView,
-        side: Start::Target,
-        note: "",
-    },
-    SqlCommand {
-        sql: "REFRESH MATERIALIZED VIEW CONCURRENTLY",
-        form: Form::RefreshConcurrently,
-        side: Start::Target,
-        note: "",
-    },
-    SqlCommand {
-        sql: "ALTER TABLE",
-        form: Form::AlterColumn,
-        side: Start::Target,
-        note: ", in most forms: columns, types, constraints, names, owners",
-    },
-    SqlCommand {
-        sql: "ALTER TABLE ADD COLUMN",
-        form: Form::AddColumn,
-        side: Start::Target,
-        note: "",
-    },
-    SqlCommand {
-        sql: "ALTER TABLE DROP COLUMN",
-        form: Form::DropColumn,
-        side: Start::Target,
-        note: ", and on both tables of a foreign key that goes with it",
-    },
-    SqlCommand {
-        sql: "ALTER TABLE ALTER COLUMN TYPE",
-        form: Form::AlterType,
-        side: Start::Target,
-        note: ", and rewrites the table unless the values stay as they are",
-    },
-    SqlCommand {
-        sql: "ALTER TABLE ALTER COLUMN SET DEFAULT",
-        form: Form::AlterColumn,
-        side: Start::Target,
-        note: "",
-    },
-    SqlCommand {
-        sql: "ALTER TABLE ALTER COLUMN SET NOT NULL",
-        form: Form::SetNotNull,
-        side: Start::Target,
-        note: ", and reads the table",
-    },
-    SqlCommand {
-        sql: "ALTER TABLE ALTER COLUMN DROP",
-        form: Form::AlterColumn,
-        side: Start::Target,
-        note: ", of DEFAULT, NOT NULL, EXPRESSION, IDENTITY",
-    },
-    SqlCommand {
-        sql: "ALTER TABLE ALTER COLUMN SET STATISTICS",
-        form: Form::SetStatistics,
-        side: Start::Target,
-        note: "",
-    },
-    SqlCommand {
-        sql: "ALTER TABLE ALTER COLUMN SET (..)",
-        form: Form::SetStatistics,
-        side: Start::Target,
-        note: "",
-    },
-    SqlCommand {
-        sql: "ALTER TABLE ALTER COLUMN RESET (..)",
-        form: Form::SetStatistics,
-        side: Start::Target,
-        note: "",
-    },
-    SqlCommand {
-        sql: "ALTER TABLE ALTER COLUMN SET STORAGE",
-        form: Form::AlterColumn,
-        side: Start::Target,
-        note: "",
-    },
-    SqlCommand {
-        sql: "ALTER TABLE ALTER COLUMN SET COMPRESSION",
-        form: Form::AlterColumn,
-        side: Start::Target,
-        note: "",
-    },
-    SqlCommand {
-        sql: "ALTER TABLE ALTER COLUMN ADD GENERATED",
-        form: Form::NewSequence,
-        side: Start::Target,
-        note: ", and on the sequence",
-    },
-    SqlCommand {
-        sql: "ALTER TABLE ALTER COLUMN SET GENERATED",
-        form: Form::AlterColumn,
-        side: Start::Target,
-        note: ", and ShareRowExclusiveLock on the sequence",
-    },
-    SqlCommand {
-        sql: "ALTER TABLE ADD CHECK",
-        form: Form::AddCheck,
-        side: Start::Target,
-        note: ", and reads the table, unless NOT VALID",
-    },
-    SqlCommand {
-        sql: "ALTER TABLE ADD UNIQUE",
-        form: Form::AddUnique,
-        side: Start::Target,
-        note: ", and builds an index, unless USING INDEX",
-    },
-    SqlCommand {
-        sql: "ALTER TABLE ADD PRIMARY KEY",
-        form: Form::AddUnique,
-        side: Start::Target,
-        note: ", and builds an index, unless USING INDEX",
-    },
-    SqlCommand {
-        sql: "ALTER TABLE ADD EXCLUDE",
-        form: Form::AddUnique,
-        side: Start::Target,
-        note: ", and builds an index",
-    },
-    SqlCommand {
-        sql: "ALTER TABLE ALTER CONSTRAINT",
-        form: Form::DropConstraint,
-        side: Start::Target,
-        note: "",
-    },
-    SqlCommand {
-        sql: "ALTER TABLE RENAME",
-        form: Form::RenameTable,
-        side: Start::Target,
-        note: ", also of a column or a constraint",
-    },
-    SqlCommand {
-        sql: "ALTER TABLE OWNER TO",
-        form: Form::OwnerTo,
-        side: Start::Target,
-        note: "",
-    },
-    SqlCommand {
-        sql: "ALTER TABLE SET SCHEMA",
-        form: Form::SetSchema,
-        side: Start::Target,
-        note: "",
-    },
-    SqlCommand {
-        sql: "ALTER TABLE SET (..)",
-        form: Form::SetParameters,
-        side: Start::Target,
-        note: ", most storage parameters",
-    },
-    SqlCommand {
-        sql: "ALTER TABLE RESET (..)",
-        form: Form::SetParameters,
-        side: Start::Target,
-        note: "",
-    },
-    SqlCommand {
-        sql: "ALTER TABLE CLUSTER ON",
-        form: Form::ClusterOn,
-        side: Start::Target,
-        note: "",
-    },
-    SqlCommand {
-        sql: "ALTER TABLE SET WITHOUT CLUSTER",
-        form: Form::SetParameters,
-        side: Start::Target,
-        note: "",
-    },
-    SqlCommand {
-        sql: "ALTER TABLE SET LOGGED",
-        form: Form::SetLogged,
-        side: Start::Target,
-        note: ", and rewrites the table",
-    },
-    SqlCommand {
-        sql: "ALTER TABLE SET UNLOGGED",
-        form: Form::SetLogged,
-        side: Start::Target,
-        note: ", and rewrites the table",
-    },
-    SqlCommand {
-        sql: "ALTER TABLE SET ACCESS METHOD",
-        form: Form::SetLogged,
-        side: Start::Target,
-        note: ", and rewrites the table",
-    },
-    SqlCommand {
-        sql: "ALTER TABLE SET TABLESPACE",
-        form: Form::SetTablespace,
-        side: Start::Target,
-        note: ", and copies the table",
-    },
-    SqlCommand {
-        sql: "ALTER TABLE ENABLE TRIGGER",
-        form: Form::EnableTrigger,
-        side: Start::Target,
-        note: "",
-    },
-    SqlCommand {
-        sql: "ALTER TABLE ENABLE RULE",
-        form: Form::EnableRule,
-        side: Start::Target,
-        note: "",
-    },
-    SqlCommand {
-        sql: "ALTER TABLE DISABLE RULE",
-        form: Form::EnableRule,
-        side: Start::Target,
-        note: "",
-    },
-    SqlCommand {
-        sql: "ALTER TABLE ENABLE ROW LEVEL SECURITY",
-        form: Form::RowLevelSecurity,
-        side: Start::Target,
-        note: "",
-    },
-    SqlCommand {
-        sql: "ALTER TABLE DISABLE ROW LEVEL SECURITY",
-        form: Form::RowLevelSecurity,
-        side: Start::Target,
-        note: "",
-    },
-    SqlCommand {
-        sql: "ALTER TABLE FORCE ROW LEVEL SECURITY",
-        form: Form::RowLevelSecurity,
-        side: Start::Target,
-        note: "",
-    },
-    SqlCommand {
-        sql: "ALTER TABLE REPLICA IDENTITY",
-        form: Form::ReplicaIdentity,
-        side: Start::Target,
-        note: "",
-    },
-    SqlCommand {
-        sql: "ALTER TABLE VALIDATE CONSTRAINT",
-        form: Form::ValidateConstraint,
-        side: Start::Target,
-        note: ", and so SET STATISTICS, CLUSTER ON, SET (fillfactor ..)",
-    },
-    SqlCommand {
-        sql: "ALTER TABLE SET (user_catalog_table)",
-        form: Form::SetUserCatalogTable,
-        side: Start::Target,
-        note: "",
-    },
-    SqlCommand {
-        sql: "ALTER TABLE ADD FOREIGN KEY",
-        form: Form::AddForeignKey,
-        side: Start::Target,
-        note: " on both tables",
-    },
-    SqlCommand {
-        sql: "ALTER TABLE ADD COLUMN REFERENCES",
-        form: Form::AddColumnReferences,
-        side: Start::Target,
-        note: ", and ShareRowExclusiveLock on the table that it refers to",
-    },
-    SqlCommand {
-        sql: "ALTER TABLE DROP CONSTRAINT",
-        form: Form::DropConstraint,
-        side: Start::Target,
-        note: ", of a foreign key on both tables",
-    },
-    SqlCommand {
-        sql: "ALTER TABLE DISABLE TRIGGER",
-        form: Form::EnableTrigger,
-        side: Start::Target,
-        note: ", and so ENABLE TRIGGER",
-    },
-    SqlCommand {
-        sql: "ALTER TABLE INHERIT",
-        form: Form::Inherit,
-        side: Start::Target,
-        note: ", and ShareUpdateExclusiveLock on the parent",
-    },
-    SqlCommand {
-        sql: "ALTER TABLE NO INHERIT",
-        form: Form::NoInherit,
-        side: Start::Target,
-        note: ", and AccessShareLock on the parent",
-    },
-    SqlCommand {
-        sql: "ALTER TABLE ATTACH PARTITION",
-        form: Form::AttachPartition,
-        side: Start::Target,
-        note: " on the parent, AccessExclusiveLock on a default partition and the table attached",
-    },
-    SqlCommand {
-        sql: "ALTER TABLE DETACH PARTITION",
-        form: Form::DetachPartition,
-        side: Start::Target,
-        note: " on both tables and a default partition",
-    },
-    SqlCommand {
-        sql: "ALTER TABLE DETACH PARTITION CONCURRENTLY",
-        form: Form::DetachConcurrently,
-        side: Start::Target,
-        note: " on both tables, and waits until each transaction that uses the parent has ended",
-    },
-    SqlCommand {
-        sql: "LOCK TABLE",
-        form: Form::LockAccessExclusive,
-        side: Start::Target,
-        note: ", or the mode that it names",
-    },
-];
+pub static COMMANDS: [SqlCommand; 105] = command_rows! {
+    "SELECT" Select Target "";
+    "SELECT FOR UPDATE" SelectForUpdate Target "";
+    "SELECT FOR NO KEY UPDATE" SelectForUpdate Target "";
+    "SELECT FOR SHARE" SelectForUpdate Target "";
+    "SELECT FOR KEY SHARE" SelectForUpdate Target "";
+    "SELECT NEXTVAL" Nextval Target " on the sequence";
+    "COPY TO" CopyTo Target "";
+    "COPY FROM" CopyFrom Target "";
+    "PG_DUMP" LockAccessShare Target "";
+    "INSERT" Insert Target "";
+    "INSERT" CheckReferred Target " on the table that a foreign key refers to";
+    "UPDATE" Update Target "";
+    "UPDATE" CheckReferred Target
+        " on the table that a changed foreign key refers to, or that refers to a changed key";
+    "DELETE" Delete Target "";
+    "DELETE" CheckReferring Target " on a table that refers to it, RowExclusiveLock where that cascades";
+    "MERGE" Merge Target "";
+    "VACUUM" Vacuum Target "";
+    "VACUUM FULL" VacuumFull Target "";
+    "ANALYZE" Analyze Target "";
+    "CREATE STATISTICS" CreateStatistics Target "";
+    "DROP STATISTICS" DropStatistics Target "";
+    "COMMENT ON TABLE" CommentOnTable Target ", and so on a column or a view";
+    "COMMENT ON CONSTRAINT" CommentOnConstraint Target ", and so on a trigger, a rule or a policy";
+    "CREATE PUBLICATION FOR TABLE" PublishTable Target "";
+    "ALTER PUBLICATION" PublishTable Target " on the tables that it names";
+    "CREATE INDEX" CreateIndex Target "";
+    "CREATE INDEX CONCURRENTLY" CreateIndexConcurrently Target
+        " session, and waits until each writer's transaction has ended";
+    "CREATE TRIGGER" CreateTrigger Target "";
+    "ALTER TRIGGER" AlterTrigger Target "";
+    "DROP TRIGGER" DropTrigger Target "";
+    "CREATE RULE" CreateRule Target ", and so ALTER RULE, DROP RULE";
+    "CREATE POLICY" CreatePolicy Target ", and so ALTER POLICY, DROP POLICY";
+    "ALTER RULE" AlterRule Target "";
+    "DROP RULE" DropRule Target "";
+    "ALTER POLICY" AlterPolicy Target "";
+    "DROP POLICY" DropPolicy Target "";
+    "CREATE TABLE REFERENCES" CreateTableReferences Other " on the table that it refers to";
+    "CREATE TABLE PARTITION OF" CreateTablePartitionOf Other " on the parent and a default partition";
+    "CREATE TABLE INHERITS" CreateTableInherits Other " on the parent";
+    "CREATE VIEW" ReadDefinition Target " on its tables, and AccessExclusiveLock on the view";
+    "ALTER VIEW" AlterView Target " on the view";
+    "DROP VIEW" DropView Target " on the view";
+    "ALTER SEQUENCE" AlterSequence Target
+        ", in most forms; AccessExclusiveLock with RENAME, OWNER TO, SET SCHEMA";
+    "DROP SEQUENCE" DropSequence Target "";
+    "REINDEX" ReindexTable Target ", and AccessExclusiveLock on the index";
+    "REINDEX CONCURRENTLY" ReindexTableConcurrently Target
+        " session, and waits until each transaction that uses the table has ended";
+    "ALTER INDEX" AlterIndex Target " on the index, in most forms";
+    "ALTER INDEX ATTACH PARTITION" AttachIndex Target
+        " on the parent's, AccessExclusiveLock on the one attached, AccessShareLock on both tables";
+    "ALTER INDEX SET TABLESPACE" AlterIndexTablespace Target " on the index, and copies it";
+    "DROP INDEX" DropIndex Target "";
+    "DROP INDEX CONCURRENTLY" DropIndexConcurrently Target
+        " session, and waits until each transaction that uses the table has ended";
+    "DROP TABLE" DropTable Target ", also on a partition's parent, and on both tables of a foreign key";
+    "TRUNCATE" Truncate Target ", with CASCADE on the tables that refer to it too";
+    "CLUSTER" Cluster Target "";
+    "REFRESH MATERIALIZED VIEW" RefreshMaterializedView Target "";
+    "REFRESH MATERIALIZED VIEW CONCURRENTLY" RefreshConcurrently Target "";
+    "ALTER TABLE" AlterColumn Target ", in most forms: columns, types, constraints, names, owners";
+    "ALTER TABLE ADD COLUMN" AddColumn Target "";
+    "ALTER TABLE DROP COLUMN" DropColumn Target ", and on both tables of a foreign key that goes with it";
+    "ALTER TABLE ALTER COLUMN TYPE" AlterType Target
+        ", and rewrites the table unless the values stay as they are";
+    "ALTER TABLE ALTER COLUMN SET DEFAULT" AlterColumn Target "";
+    "ALTER TABLE ALTER COLUMN SET NOT NULL" SetNotNull Target ", and reads the table";
+    "ALTER TABLE ALTER COLUMN DROP" AlterColumn Target ", of DEFAULT, NOT NULL, EXPRESSION, IDENTITY";
+    "ALTER TABLE ALTER COLUMN SET STATISTICS" SetStatistics Target "";
+    "ALTER TABLE ALTER COLUMN SET (..)" SetStatistics Target "";
+    "ALTER TABLE ALTER COLUMN RESET (..)" SetStatistics Target "";
+    "ALTER TABLE ALTER COLUMN SET STORAGE" AlterColumn Target "";
+    "ALTER TABLE ALTER COLUMN SET COMPRESSION" AlterColumn Target "";
+    "ALTER TABLE ALTER COLUMN ADD GENERATED" NewSequence Target ", and on the sequence";
+    "ALTER TABLE ALTER COLUMN SET GENERATED" AlterColumn Target ", and ShareRowExclusiveLock on the sequence";
+    "ALTER TABLE ADD CHECK" AddCheck Target ", and reads the table, unless NOT VALID";
+    "ALTER TABLE ADD UNIQUE" AddUnique Target ", and builds an index, unless USING INDEX";
+    "ALTER TABLE ADD PRIMARY KEY" AddUnique Target ", and builds an index, unless USING INDEX";
+    "ALTER TABLE ADD EXCLUDE" AddUnique Target ", and builds an index";
+    "ALTER TABLE ALTER CONSTRAINT" DropConstraint Target "";
+    "ALTER TABLE RENAME" RenameTable Target ", also of a column or a constraint";
+    "ALTER TABLE OWNER TO" OwnerTo Target "";
+    "ALTER TABLE SET SCHEMA" SetSchema Target "";
+    "ALTER TABLE SET (..)" SetParameters Target ", most storage parameters";
+    "ALTER TABLE RESET (..)" SetParameters Target "";
+    "ALTER TABLE CLUSTER ON" ClusterOn Target "";
+    "ALTER TABLE SET WITHOUT CLUSTER" SetParameters Target "";
+    "ALTER TABLE SET LOGGED" SetLogged Target ", and rewrites the table";
+    "ALTER TABLE SET UNLOGGED" SetLogged Target ", and rewrites the table";
+    "ALTER TABLE SET ACCESS METHOD" SetLogged Target ", and rewrites the table";
+    "ALTER TABLE SET TABLESPACE" SetTablespace Target ", and copies the table";
+    "ALTER TABLE ENABLE TRIGGER" EnableTrigger Target "";
+    "ALTER TABLE ENABLE RULE" EnableRule Target "";
+    "ALTER TABLE DISABLE RULE" EnableRule Target "";
+    "ALTER TABLE ENABLE ROW LEVEL SECURITY" RowLevelSecurity Target "";
+    "ALTER TABLE DISABLE ROW LEVEL SECURITY" RowLevelSecurity Target "";
+    "ALTER TABLE FORCE ROW LEVEL SECURITY" RowLevelSecurity Target "";
+    "ALTER TABLE REPLICA IDENTITY" ReplicaIdentity Target "";
+    "ALTER TABLE VALIDATE CONSTRAINT" ValidateConstraint Target
+        ", and so SET STATISTICS, CLUSTER ON, SET (fillfactor ..)";
+    "ALTER TABLE SET (user_catalog_table)" SetUserCatalogTable Target "";
+    "ALTER TABLE ADD FOREIGN KEY" AddForeignKey Target " on both tables";
+    "ALTER TABLE ADD COLUMN REFERENCES" AddColumnReferences Target
+        ", and ShareRowExclusiveLock on the table that it refers to";
+    "ALTER TABLE DROP CONSTRAINT" DropConstraint Target ", of a foreign key on both tables";
+    "ALTER TABLE DISABLE TRIGGER" EnableTrigger Target ", and so ENABLE TRIGGER";
+    "ALTER TABLE INHERIT" Inherit Target ", and ShareUpdateExclusiveLock on the parent";
+    "ALTER TABLE NO INHERIT" NoInherit Target ", and AccessShareLock on the parent";
+    "ALTER TABLE ATTACH PARTITION" AttachPartition Target
+        " on the parent, AccessExclusiveLock on a default partition and the table attached";
+    "ALTER TABLE DETACH PARTITION" DetachPartition Target " on both tables and a default partition";
+    "ALTER TABLE DETACH PARTITION CONCURRENTLY" DetachConcurrently Target
+        " on both tables, and waits until each transaction that uses the parent has ended";
+    "LOCK TABLE" LockAccessExclusive Target ", or the mode that it names";
+};

@@ -12,10 +12,6 @@ mod form_rows;
 mod forms;
 mod locks;
 mod paths;
-mod rows_of_alter_table;
-mod rows_of_others;
-mod rows_of_queries;
-mod rows_of_relations;
 mod word_lengths;
 mod words;
 

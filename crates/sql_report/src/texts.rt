@@ -1,6 +1,6 @@
 //! What is said of faults, of how long work takes, and of statements.
 
-use sql_locks::{Awaits, Defect, FormRow, SqlFault, Until, Work, all_rows};
+use sql_locks::{Awaits, Defect, SqlFault, Until, Work, all_rows};
 use std::alloc::{AllocError, Global};
 use strsim::jaro_winkler;
 
@@ -71,32 +71,14 @@ fn two_words(alloc: Global, text: &[u8], from: usize) -> Result<String, AllocErr
 fn nearest_form(alloc: Global, words: &str) -> Result<&'static str, AllocError> {
     let mut nearest = "SELECT";
     let mut most = 0.0;
-    for rows in all_rows() {
-        let (form, like) = nearest_among(alloc, rows, words)?;
-        if like > most {
-            nearest = form;
-            most = like;
-        }
-    }
-    Ok(nearest)
-}
-
-/// The form among `rows` that is most like `words`, and how like it is, from 0 to 1.
-fn nearest_among(
-    alloc: Global,
-    rows: &'static [FormRow],
-    words: &str,
-) -> Result<(&'static str, f64), AllocError> {
-    let mut nearest = "";
-    let mut most = 0.0;
-    for row in rows {
+    for row in all_rows() {
         let like = jaro_winkler(alloc, words, row.sql)?;
         if like > most {
             nearest = row.sql;
             most = like;
         }
     }
-    Ok((nearest, most))
+    Ok(nearest)
 }
 
 /// How long `work` takes, as a report says it after `for`.

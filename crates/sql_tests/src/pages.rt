@@ -154,8 +154,6 @@ fn the_page_tells_the_modes_and_the_longest_work_of_its_forms(rt: HostRuntime) {
 
 #[test]
 fn each_form_stands_in_the_page(rt: HostRuntime) {
-    for rows in all_rows() {
-        let untold = first_untold(rows).unwrap_or("");
-        assert!(rt; untold == "", "{untold} is in no row");
-    }
+    let untold = first_untold(all_rows()).unwrap_or("");
+    assert!(rt; untold == "", "{untold} is in no row");
 }
