@@ -1,12 +1,12 @@
-"""The rows of .ci/rows/: what `lock_scenario` writes to both its streams, and its status, for its words and its
-input.
+"""The rows of .ci/rows/: what `lock_scenario` writes to both its streams, and its status, for its words and
+its input.
 
 A row is its title, `# TITLE`, with lines below it that each begin with a mark:
 
-    $ WORDS      the words of the command line; `$$ WORDS` where the input is typed at a terminal, and the errors
-                 are read at one. Where there are several such lines the row holds for each
-    < LINES      lines of the input, with `; ` between them, as the output's below; `<< LINE` is one line, as it
-                 stands
+    $ WORDS      the words of the command line; `$$ WORDS` where the input is typed at a terminal, and the
+                 errors are read at one. Where there are several such lines the row holds for each
+    < LINES      lines of the input, with `; ` between them, as the output's below; `<< LINE` is one line, as
+                 it stands
     <+ N TEXT    N copies of a text, without a line feed
     <@ PATH      the input is that file, and `>@ PATH` the output
     > LINES      lines of standard output, `>> LINE` and `>+ N TEXT` as above
@@ -17,8 +17,8 @@ A row is its title, `# TITLE`, with lines below it that each begin with a mark:
     ? LINE | TEXT    a row of its own: the input so far, this line and one more, of which nothing is run. The
                  fault is `line N: TEXT`, with the number of this line
 
-In a text `\\xHH` is a byte. Beside the rows of these files each story of scenarios/ is a row, and each script that
-was recorded from a server."""
+In a text `\\xHH` is a byte. Beside the rows of these files each story of scenarios/ is a row, and each script
+that was recorded from a server."""
 
 import copy
 import glob

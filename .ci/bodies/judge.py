@@ -76,9 +76,9 @@ class Verdict:
 
 
 def functions_of_crate(crate):
-    """The functions of a crate as the prover calls them, where `rt` took over an earlier proof and says nothing of
-    them: by the names of their proofs, which `rattle` writes and which lack those that call themselves. (A kit that
-    writes none has each wrong body tried alone.)"""
+    """The functions of a crate as the prover calls them, where `rt` took over an earlier proof and says
+    nothing of them: by the names of their proofs, which `rattle` writes and which lack those that call
+    themselves. (A kit that writes none has each wrong body tried alone.)"""
     with tempfile.TemporaryDirectory(prefix="wrong-bodies-") as room:
         words = [rt.rtlib.RATTLE, "check", *crate.words(["--jobs", "1"], keeps=False)]
         words += ["--generated", f"{room}/names", "--old-names"]
