@@ -8,7 +8,8 @@ mod held;
 mod pauses;
 mod releases;
 
-pub use acquires::{acquire, acquire_held};
-pub use guarded::{Acquirable, Guarded};
+pub use acquires::{acquire, acquire_changed, acquire_held};
+pub use guarded::{Acquirable, Guarded, Lost};
 pub use held::Held;
+pub use pauses::MOST_LOST;
 pub use releases::release;

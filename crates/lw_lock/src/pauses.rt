@@ -6,6 +6,10 @@ use std::hint::spin_loop;
 /// sleeps where a lock is held for long, and seldom where others only take turns.
 pub(crate) const SPINS: u32 = 13;
 
+/// How many attempts at lightweight locks a session may lose before it joins a wait list: the first one, or
+/// the one that it made in the list, and then one after each pause.
+pub const MOST_LOST: u32 = SPINS + 1;
+
 /// How often the number of pauses before an attempt doubles, from one to 256, which take 1.5 microseconds.
 const DOUBLINGS: u32 = 8;
 

@@ -12,11 +12,15 @@ use Rattle.lock_world.specs.AccountFacts.{KnowsContent, KnowsSlots}
 use Rattle.shared_rule.specs.declared.history.PlacedView.{PlacedView}
 use Rattle.shared_rule.specs.declared.kept.Kept.{Kept}
 use Rattle.shared_rule.specs.declared.kept.Kept.TheVariants.{Nothing}
+use Rattle.shared_rule.specs.History.{noting}
 use Rattle.shared_rule.specs.Layout.{content_shelf_of}
 use Rattle.shared_rule.specs.Led.{LedBy, LedTo}
+use Rattle.shared_rule.specs.LwLocks.{lock_number, IsFreeFor}
+use Rattle.shared_rule.specs.Marks.{SawHeld}
+use Rattle.shared_rule.specs.declared.lw_locks.LwLock.{LwLock}
 use Rattle.shared_rule.specs.Plays.{side_of, account_at, number_at, quiet_at, todo_at}
 use Rattle.shared_rule.specs.Quiet.{quiet_getting}
-use Rattle.shared_rule.specs.Todos.{Todo, todo_attempted}
+use Rattle.shared_rule.specs.Todos.{Todo, todo_attempted, todo_lost}
 use Rattle.shared_rule.specs.Waiters.{WaitsExist}
 
 -- What an acquire of a lightweight lock leads to, whether it won at once or waited in the lock's list.
@@ -40,6 +44,14 @@ module _ {T : Type 0} (content : T → Content) where
   -- The session got nothing, and has as much to do for those who wait as before.
   abbrev pub IsAsBefore : Seat (Kept T) (PlacedView T) → Seat (Kept T) (PlacedView T) → Type 0
   IsAsBefore before after = GotNothing before after (todo_at before)
+
+  -- The session lost an attempt at the lock: by its last mark the lock's word showed a number at which the
+  -- mode can't be had.
+  pub record SeesInTheWay (lock : LwLock) (mode : LwMode) (before after : Seat (Kept T) (PlacedView T)) : Type 0 where
+    pub nothing : GotNothing before after (todo_lost (todo_at before))
+    pub shown : ℕ
+    pub noted : (side_of after).0 ≡ noting (side_of before).0 (SawHeld (lock_number lock) shown)
+    pub in_the_way : IsFreeFor mode shown → ⊥
 
   -- The session got nothing, and has tried or is to try this lock still.
   pub record IsTrying (lock : ℕ) (before after : Seat (Kept T) (PlacedView T)) : Type 0 where

@@ -22,7 +22,7 @@ use Rattle.lock_world.specs.Wakes.{IsParkedWaiting, IsParkedAsleep, ParkedHaveNo
 use Rattle.lock_world.specs.Wakes.Waking.{NobodyIsForgotten, IsAsleep, OrderIsKept}
 use Rattle.lock_world.specs.Wakes.Owing.{waking}
 use Rattle.shared_rule.specs.declared.history.History.{History}
-use Rattle.shared_rule.specs.Todos.{todo_told_by}
+use Rattle.shared_rule.specs.Todos.{without_lost, todo_told_by}
 use Rattle.shared_rule.specs.Owed.{owed_told}
 use Rattle.shared_rule.specs.Looks.{looks_told, looks_of}
 use Rattle.shared_rule.specs.History.{is_among}
@@ -86,7 +86,7 @@ pub record ShowsSleepers {T : Type 0} (content : T → Content) (begun : T → O
   pub beside : Beside
   pub todo :
       (history : History T) → StandsAtSeat state.views history
-      → todo_told_by history.number history.marks ≡ todo_of beside history.number
+      → without_lost (todo_told_by history.number history.marks) ≡ todo_of beside history.number
   pub nobody : NobodyIsForgotten (waking world beside.duties)
   pub owed : (session lock : ℕ) → IsAsleep (waking world beside.duties) session lock → IsLookedAfter world beside session lock
   pub only_live : OnlyLiveOwe world beside
@@ -108,7 +108,7 @@ pub record ShowsNoCircle {T : Type 0} (content : T → Content) (begun : T → O
   pub told : TurnsAreTold state.views world.numbers turns
   pub todo :
       (history : History T) → StandsAtSeat state.views history
-      → todo_told_by history.number history.marks ≡ todo_of beside history.number
+      → without_lost (todo_told_by history.number history.marks) ≡ todo_of beside history.number
   pub in_order : OrderIsKept (waking world beside.duties)
   pub parked : ParkedHaveNothingToDo world beside
   pub somebody_runs : NotAllSleep world beside

@@ -1,4 +1,7 @@
 use Rattle.std.specs.Prelude.{ℕ, ◌<◌, Some, None}
+use Rattle.lw_word.specs.declared.words.LwMode.{LwMode}
+use Rattle.lw_word.specs.declared.words.LwMode.TheVariants.{Exclusive, Shared}
+use Rattle.lw_word.specs.LightweightWord.{IsHeldByNobody, IsFreeToShare}
 use Rattle.lock_world.specs.declared.events.Word.{Word}
 use Rattle.lock_world.specs.declared.events.Word.TheVariants.{Partition, Fast}
 use Rattle.lock_world.specs.WaitLists.{partition_lock, fast_lock}
@@ -22,6 +25,11 @@ lock_number (OfSlots owner) = fast_lock owner
 abbrev pub LockExists : ℕ → LwLock → Type 0
 LockExists limit (OfPart partition) = partition < 16
 LockExists limit (OfSlots owner) = owner < limit
+
+-- A lock's word that shows this number lets a session have the lock in the mode.
+abbrev pub IsFreeFor : LwMode → ℕ → Type 0
+IsFreeFor Exclusive shown = IsHeldByNobody shown
+IsFreeFor Shared shown = IsFreeToShare shown
 
 -- What a session knows of wait lists between two calls: it has none in hand, stands in none, and owes nobody
 -- that it was taken off one.

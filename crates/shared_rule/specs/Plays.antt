@@ -3,7 +3,7 @@ use Rattle.atomic_table.specs.Table.{Me, Step, rest}
 use Rattle.atomic_table.specs.Seated.{TableId}
 use Rattle.std.specs.Global.{Box}
 use Rattle.lw_word.specs.WaitList.{Waiting, stands_in}
-use Rattle.lw_word.specs.LightweightWord.{IsHeldByNobody}
+use Rattle.lw_word.specs.declared.words.LwMode.{LwMode}
 use Rattle.lock_table.specs.declared.request.Request.{Request}
 use Rattle.lock_table.specs.Content.{Content}
 use Rattle.lock_world.specs.declared.events.Word.{Word}
@@ -21,7 +21,7 @@ use Rattle.shared_rule.specs.declared.kept.Kept.TheVariants.{Part}
 use Rattle.shared_rule.specs.declared.kept.Kept.TheVariants as kept
 use Rattle.shared_rule.specs.declared.lw_locks.LwLock.{LwLock}
 use Rattle.shared_rule.specs.declared.rule.TableSizes.{TableSizes}
-use Rattle.shared_rule.specs.LwLocks.{word_of_lock, lock_number, LockExists}
+use Rattle.shared_rule.specs.LwLocks.{word_of_lock, lock_number, LockExists, IsFreeFor}
 use Rattle.shared_rule.specs.Layout.{index_of_word, content_shelf_of, list_shelf_of, IsSized}
 use Rattle.shared_rule.specs.History.{noting, first_account, first_number, slots_shown}
 use Rattle.shared_rule.specs.Quiet.{Quiet, first_quiet}
@@ -177,11 +177,12 @@ module _ {T : Type 0} (content : T → Content) where
       → after ≡ (noting before.0 (SawListLocked (lock_number lock)), before.1))
 
 module _ {T : Type 0} where
-  -- A load sees a lightweight lock held, and that is noted, where it finds that somebody holds it.
-  abbrev pub SawHeldOr : Step (Kept T) → Side T → ℕ → Side T → Type 0
-  SawHeldOr step before found after =
-      (IsHeldByNobody found → after ≡ before)
-      × ((IsHeldByNobody found → ⊥) → (sessions : ℕ) (lock : LwLock) → LockExists sessions lock
+  -- A load sees that a lightweight lock can't be had in the mode, and that is noted, where it finds somebody
+  -- in the way.
+  abbrev pub SawHeldOr : LwMode → Step (Kept T) → Side T → ℕ → Side T → Type 0
+  SawHeldOr mode step before found after =
+      (IsFreeFor mode found → after ≡ before)
+      × ((IsFreeFor mode found → ⊥) → (sessions : ℕ) (lock : LwLock) → LockExists sessions lock
       → step.word ≡ index_of_word sessions (word_of_lock lock)
       → after ≡ (noting before.0 (SawHeld (lock_number lock) found), before.1))
 

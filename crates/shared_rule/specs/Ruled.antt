@@ -26,7 +26,7 @@ use Rattle.shared_rule.specs.Layout.{content_shelf_of, list_shelf_of, lock_count
 use Rattle.shared_rule.specs.Shown.{WordsAreShown}
 use Rattle.shared_rule.specs.History.{blank_account, is_among, told, keeper}
 use Rattle.shared_rule.specs.Tells.{AreTold, AreTurnsTold, Leads, steps_of, events_of, turns_of}
-use Rattle.shared_rule.specs.Todos.{Todo, nothing_to_do, todo_told_by, flagged_told_by}
+use Rattle.shared_rule.specs.Todos.{Todo, nothing_to_do, without_lost, todo_told_by, flagged_told_by}
 use Rattle.lock_world.specs.Wakes.{Beside, Turn, RunKeepsInOrder}
 use Rattle.lock_world.specs.Wakes.Owing.{Duties}
 use Rattle.shared_rule.specs.Owed.{owed_told}
@@ -212,13 +212,14 @@ module _ {T : Type 0} (content : T → Content) where
     pub not_issued : (number : ℕ) → w.numbers.issued ≤ number → account w number ≡ blank_account
 
 -- what one session has to do for those who wait for lightweight locks, by the duties of all and by the
--- sessions that it has to call
+-- sessions that it has to call, lost attempts aside
 abbrev pub todo_with : Duties → (ℕ → Bool) → ℕ → Todo
 todo_with duties calls number = record {
   due = duties.due number;
   tries = duties.tries number;
   owes_release_ok = duties.owes_release_ok number;
   calls = calls;
+  lost = 0;
 }
 
 -- what one session has to do for those who wait for lightweight locks, of what all have
@@ -255,7 +256,7 @@ pub record WakesAreKept {T : Type 0} (sizes : TableSizes) (views : List (View T)
   pub told : TurnsAreTold views w.numbers turns
   pub todo :
       (history : History T) → StandsAtSeat views history
-      → todo_told_by history.number history.marks ≡ todo_of beside history.number
+      → without_lost (todo_told_by history.number history.marks) ≡ todo_of beside history.number
   pub flagged :
       (history : History T) → StandsAtSeat views history → flagged_told_by history.marks ≡ beside.duties.flagged history.number
   pub owed : (history : History T) → StandsAtSeat views history → OwesAsTold beside history.number (owed_told history.marks)

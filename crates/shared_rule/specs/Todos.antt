@@ -1,4 +1,4 @@
-use Rattle.std.specs.Prelude.{◌≡◌, ◌⊎◌, ℕ, ◌&&◌, not, Bool, true, false, List, [], ◌∷◌, Option, Some, None, is_some, if◌then◌else◌}
+use Rattle.std.specs.Prelude.{◌≡◌, ◌⊎◌, ℕ, ◌+◌, ◌&&◌, not, Bool, true, false, List, [], ◌∷◌, Option, Some, None, is_some, if◌then◌else◌}
 use Rattle.lw_word.specs.declared.words.LwMode.TheVariants.{Exclusive, Shared}
 use Rattle.lw_word.specs.LockState.{LockState, state_of, put_in, must_wake}
 use Rattle.lw_word.specs.WaitList.{stands_in}
@@ -33,14 +33,25 @@ pub record Todo : Type 0 where
   pub owes_release_ok : Option ℕ
   -- whom it has taken off a list, and has not called since
   pub calls : ℕ → Bool
+  -- how often it has seen somebody in the way of an attempt since it last got a lock or joined a list: that
+  -- often it has lost
+  pub lost : ℕ
 
 -- what a session has to do that has nothing to do
 abbrev pub nothing_to_do : Todo
-nothing_to_do = record { due = None; tries = None; owes_release_ok = None; calls = λ _. false }
+nothing_to_do = record { due = None; tries = None; owes_release_ok = None; calls = λ _. false; lost = 0 }
 
--- the lock was taken, or seen held
+-- the same, however many attempts were lost
+abbrev pub without_lost : Todo → Todo
+without_lost todo = record todo { lost = 0 }
+
+-- the lock was taken
 abbrev pub todo_attempted : Todo → Todo
-todo_attempted todo = record todo { tries = None }
+todo_attempted todo = record todo { tries = None; lost = 0 }
+
+-- the lock was seen held
+abbrev pub todo_lost : Todo → Todo
+todo_lost todo = record todo { tries = None; lost = todo.lost + 1 }
 
 -- the wait list of the lock was looked at
 abbrev pub todo_looked : Todo → Todo
@@ -52,7 +63,7 @@ todo_putting todo lock state = record todo { due = if must_wake state then Some 
 
 -- the list in hand was joined
 abbrev pub todo_queueing : Todo → Option ℕ → Todo
-todo_queueing todo lock = record todo { tries = lock; owes_release_ok = lock }
+todo_queueing todo lock = record todo { tries = lock; owes_release_ok = lock; lost = 0 }
 
 -- the list in hand was left
 abbrev pub todo_leaving : Todo → Todo
@@ -100,7 +111,7 @@ todo_words number lists todo (UnsharedFast owner found) = todo_putting todo (fas
 todo_words number lists todo (Passed owner tag mode found) = todo_putting todo (fast_lock owner) (put_in Exclusive (state_of found))
 todo_words number lists todo (LockedList lock waiters) = todo_looked todo
 todo_words number lists todo (SawListLocked lock) = todo_looked todo
-todo_words number lists todo (SawHeld lock shown) = todo_attempted todo
+todo_words number lists todo (SawHeld lock shown) = todo_lost todo
 todo_words number lists todo (JoinedList mode) = todo_queueing todo (lock_of_list lists.in_hand)
 todo_words number lists todo LeftList = todo_leaving todo
 todo_words number lists todo (TookOff other) = todo_owing todo other
@@ -165,15 +176,25 @@ pub record TriesAtMost (lock : ℕ) (todo : Todo) : Type 0 where
 
 -- What a session has to do once it stands in the list of a lock.
 abbrev pub todo_in_list : ℕ → Todo
-todo_in_list lock = record { due = None; tries = Some lock; owes_release_ok = Some lock; calls = λ _. false }
+todo_in_list lock = record {
+  due = None;
+  tries = Some lock;
+  owes_release_ok = Some lock;
+  calls = λ _. false;
+  lost = 0;
+}
+
+-- What a session has to do once it stood in the list of a lock, and has seen somebody in its way.
+abbrev pub todo_held : ℕ → Todo
+todo_held lock = todo_lost (todo_in_list lock)
 
 -- What a session has to do once it stood in the list of a lock, and has got the lock.
 abbrev pub todo_got : ℕ → Todo
-todo_got lock = record { due = None; tries = None; owes_release_ok = Some lock; calls = λ _. false }
+todo_got lock = record { due = None; tries = None; owes_release_ok = Some lock; calls = λ _. false; lost = 0 }
 
 -- What a session has to do once it stood in the list of a lock, was told, and is back.
 abbrev pub todo_back : ℕ → Todo
-todo_back lock = record { due = None; tries = Some lock; owes_release_ok = None; calls = λ _. false }
+todo_back lock = record { due = None; tries = Some lock; owes_release_ok = None; calls = λ _. false; lost = 1 }
 
 -- By its account the session has the lock, exclusively or shared.
 abbrev pub HasBy : Account → LwLock → Type 0

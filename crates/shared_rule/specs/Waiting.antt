@@ -3,21 +3,17 @@ use Rattle.atomic_table.specs.declared.shared.Seat.{Seat}
 use Rattle.atomic_table.specs.Seated.{TableId}
 use Rattle.lock_table.specs.Content.{Content}
 use Rattle.lw_word.specs.declared.words.LwMode.{LwMode}
-use Rattle.lw_word.specs.declared.words.LwMode.TheVariants.{Exclusive, Shared}
-use Rattle.lw_word.specs.LightweightWord.{IsHeldByNobody, IsFreeToShare}
 use Rattle.lock_world.specs.Account.{Account}
 use Rattle.shared_rule.specs.declared.history.PlacedView.{PlacedView}
 use Rattle.shared_rule.specs.declared.rule.TableSizes.{TableSizes}
 use Rattle.shared_rule.specs.declared.kept.Kept.{Kept}
 use Rattle.shared_rule.specs.declared.lw_locks.LwLock.{LwLock}
 use Rattle.shared_rule.specs.declared.lw_locks.LwLock.TheVariants.{OfPart, OfSlots}
-use Rattle.shared_rule.specs.Acquires.{GotNothing, IsTrying, MayGetSlots}
-use Rattle.shared_rule.specs.History.{noting}
+use Rattle.shared_rule.specs.Acquires.{GotNothing, SeesInTheWay, MayGetSlots}
 use Rattle.shared_rule.specs.Led.{LedTo}
 use Rattle.shared_rule.specs.LwLocks.{lock_number, LockExists, no_lists, queued_for}
-use Rattle.shared_rule.specs.Marks.{SawHeld}
 use Rattle.shared_rule.specs.Plays.{account_at, number_at, todo_at, owed_at, FitsTable, HasSession, side_of}
-use Rattle.shared_rule.specs.Todos.{IsLatestBy, TriesAtMost, todo_attempted, todo_in_list}
+use Rattle.shared_rule.specs.Todos.{IsLatestBy, TriesAtMost, todo_in_list}
 
 -- What has come since a session was first on its way to a lightweight lock: the members of the lock's trait
 -- (`Guarded` of lw_lock).
@@ -39,11 +35,6 @@ abbrev pub MayGet : LwLock → LwMode → Account → Type 0
 MayGet (OfPart part) mode a = Unit {0}
 MayGet (OfSlots owner) mode a = MayGetSlots mode a owner
 
--- A lock's word that shows this number lets a session have the lock in the mode.
-abbrev pub IsFreeFor : LwMode → ℕ → Type 0
-IsFreeFor Exclusive shown = IsHeldByNobody shown
-IsFreeFor Shared shown = IsFreeToShare shown
-
 module _ {T : Type 0} (content : T → Content) (sought : Sought) where
   -- The session may attempt the lock, and wait for it: it is in no list, has earlier locks alone, and at most
   -- this one to attempt.
@@ -59,32 +50,28 @@ module _ {T : Type 0} (content : T → Content) (sought : Sought) where
     pub latest : IsLatestBy (account_at content seat) sought.lock
     pub wakes_nobody : owed_at seat ≡ []
 
-  -- The session has got nothing, and is in no list.
-  pub record IsOnWay (first now : Seat (Kept T) (PlacedView T)) : Type 0 where
+  -- The session has got nothing, and is in no list. By its history it has lost so many attempts since it last
+  -- got a lock, or joined a list.
+  pub record IsOnWay (lost : ℕ) (first now : Seat (Kept T) (PlacedView T)) : Type 0 where
     pub began : MayWait first
     pub still : MayWait now
     pub nothing : GotNothing content first now (todo_at now)
+    pub so_often : (todo_at now).lost ≡ lost
 
-  -- The session has joined the list of the lock, and got nothing.
+  -- The session has joined the list of the lock, and not attempted the lock since.
   pub record IsQueued (first now : Seat (Kept T) (PlacedView T)) : Type 0 where
     pub began : MayWait first
-    pub joined : Seat (Kept T) (PlacedView T)
     pub queues :
-        LedTo content first joined
+        LedTo content first now
         (record (account_at content first) { lists = queued_for (lock_number sought.lock) })
         (todo_in_list (lock_number sought.lock))
-    pub shelves : (side_of joined).1 ≡ (side_of first).1
-    pub since : IsTrying content (lock_number sought.lock) joined now
+    pub shelves : (side_of now).1 ≡ (side_of first).1
 
-  -- The session has joined the list of the lock, and saw somebody in the way of its mode then: by its last
-  -- mark the lock's word showed a number at which the mode can't be had.
+  -- The session has joined the list of the lock, and saw somebody in the way of its mode then.
   pub record HasSeenHeld (first now : Seat (Kept T) (PlacedView T)) : Type 0 where
     pub at : Seat (Kept T) (PlacedView T)
     pub waits : IsQueued first at
-    pub saw : GotNothing content at now (todo_attempted (todo_at at))
-    pub shown : ℕ
-    pub noted : (side_of now).0 ≡ noting (side_of at).0 (SawHeld (lock_number sought.lock) shown)
-    pub in_the_way : IsFreeFor sought.mode shown → ⊥
+    pub saw : SeesInTheWay content sought.lock sought.mode at now
 
   -- The session has joined the list of the lock, and won the lock then.
   pub record HasWonQueued (wins : Seat (Kept T) (PlacedView T) → Seat (Kept T) (PlacedView T) → Type 0)

@@ -6,12 +6,12 @@ ghost use Rattle.atomic_table.specs.Table.{step, rest};
 ghost use Rattle.lock_table.specs.declared.rows.TableRow.{TableRow};
 ghost use Rattle.lock_table.specs.declared.moves.Move.TheVariants.{Keep};
 ghost use Rattle.lock_world.specs.Account.{InHand};
-ghost use Rattle.lock_world.specs.AccountFacts.{KnowsContent};
 ghost use Rattle.lock_world.specs.declared.events.Word.{Word};
 ghost use Rattle.lock_world.specs.declared.events.Word.TheVariants.{Slot, Strong};
 ghost use Rattle.lock_world.specs.SlotHolds.{group_size};
 ghost use Rattle.lock_world.specs.Tallies.{modes_shown};
-ghost use Rattle.shared_rule.specs.Marks.{LoadedSlot, LoadedStrong, TookPart};
+ghost use Rattle.shared_rule.specs.Marks.{LoadedSlot, LoadedStrong};
+ghost use Rattle.shared_rule.specs.Acquires.{TakesPartition};
 ghost use Rattle.shared_rule.specs.Led.{Led};
 ghost use Rattle.shared_rule.specs.LwLocks.{no_lists};
 ghost use Rattle.shared_rule.specs.Todos.{nothing_to_do};
@@ -217,13 +217,12 @@ fn take_next<T: PartTable, R: Wait>(
     requires idle { (account_at T.content seat.old).lists ≡ no_lists }
     requires todo { todo_at seat.old ≡ nothing_to_do }
     ensures same_seat { IsSameSeat seat.old seat.new }
-    ensures side { (side_of seat.new)
-        ≡ (noting (side_of seat.old).0 (TookPart part result), (content_shelf_of part, Nothing) ∷ (side_of seat.old).1) }
+    ensures takes { TakesPartition T.content T.begun words.now.key.sessions part seat.old seat.new result }
+    ensures shelves { (side_of seat.new).1 ≡ (content_shelf_of part, Nothing) ∷ (side_of seat.old).1 }
     ensures none_begun { T.begun result ≡ None }
-    ensures knows { KnowsContent (number_at seat.old) (account_at T.content seat.old) part (T.content result) }
     ensures session_there { HasSession (side_of seat.new).0 }
-    ensures above { IsAboveHand (account_at T.content seat.new) (part + 1) }
     ensures lists { (account_at T.content seat.new).lists ≡ (account_at T.content seat.old).lists }
+    ensures above { IsAboveHand (account_at T.content seat.new) (part + 1) }
     ensures todo { todo_at seat.new ≡ nothing_to_do }
 {
     take_part_alone(rt, words, seat, part)

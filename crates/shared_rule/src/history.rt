@@ -198,7 +198,7 @@ pub enum WordMark {
         lock: u16,
     },
     /// The session saw that another session holds the lightweight lock numbered `lock`, in the way of its own
-    /// attempt: no step, but a look at the lock's word.
+    /// attempt, which is lost so: no step, but a look at the lock's word.
     SawHeld {
         /// The number of the lightweight lock.
         lock: u16,

@@ -11,18 +11,17 @@ ghost use Rattle.lock_world.specs.AccountSteps.{account_locking_list, account_un
 ghost use Rattle.lock_world.specs.AccountSteps.{account_joining_list, account_leaving_list, account_taking_off};
 ghost use Rattle.lock_world.specs.AccountSteps.{account_telling, account_loading_sleep};
 ghost use Rattle.shared_rule.specs.Marks.{JoinedList, TookOff, Told, CalledSleeper};
-ghost use Rattle.shared_rule.specs.Marks.{SawHeld, SetReleaseOk, SetHasWaiters};
+ghost use Rattle.shared_rule.specs.Marks.{SetReleaseOk, SetHasWaiters};
 ghost use Rattle.shared_rule.specs.declared.kept.Kept.TheVariants.{Nothing};
 ghost use Rattle.shared_rule.specs.History.{list_here, noting};
 ghost use Rattle.shared_rule.specs.Layout.{list_shelf_of};
-ghost use Rattle.shared_rule.specs.Acquires.{GotNothing, IsAsBefore};
+ghost use Rattle.shared_rule.specs.Acquires.{GotNothing, SeesInTheWay};
 ghost use Rattle.shared_rule.specs.Led.{Led, LedTo};
 ghost use Rattle.shared_rule.specs.Todos.{IsLeftWellBy, JoinsLatest, TellsNobodyBy, todo_looked, todo_queueing, todo_leaving};
 ghost use Rattle.shared_rule.specs.Todos.{todo_owing, todo_calling};
-ghost use Rattle.shared_rule.specs.Todos.{todo_setting_ok, todo_attempted, lock_of_list};
-ghost use Rattle.lw_word.specs.LightweightWord.{IsHeldByNobody};
+ghost use Rattle.shared_rule.specs.Todos.{todo_setting_ok, lock_of_list};
 ghost use Rattle.lock_world.specs.Wakes.Waking.{NoneOr};
-ghost use Rattle.shared_rule.specs.LwLocks.{lock_number, LockExists};
+ghost use Rattle.shared_rule.specs.LwLocks.{lock_number, LockExists, IsFreeFor};
 ghost use Rattle.shared_rule.specs.Waiters.{WaitersExist};
 ghost use Rattle.shared_rule.specs.Plays.{side_of, account_at, number_at, todo_at, flagged_at, FitsTable, HasSession, IsSameSeat};
 
@@ -30,7 +29,7 @@ use crate::kept::Kept;
 use crate::layout::sleep_word;
 use crate::lw_locks::LwLock;
 use crate::parks::call;
-use crate::plays::{LocksList, Marking, SeesHeld, Sizing};
+use crate::plays::{LocksList, Marking, Seeking, SeesHeld, Sizing};
 use crate::rule::{Seat, SharedWords};
 use crate::words::{fetch_or_as, load_as, store_as, unlock_as};
 use lock_table::PartTable;
@@ -302,9 +301,10 @@ pub(crate) fn set_has_waiters<T: PartTable, M: Marking<T>>(
 }
 
 /// Loads the word of `lock`, which the session is to attempt (the loop of `LWLockAttemptLock` in lwlock.c).
-/// Where the word shows that somebody holds the lock, that is noted, and the attempt is over: the session
-/// that holds the lock sees the flag has-waiters as it releases the lock.
-pub(crate) fn look_at_lock<T: PartTable>(
+/// Where the word shows that somebody is in the way, that is noted, and the attempt is lost. A session that
+/// stands in the lock's list may go to sleep then: whoever holds the lock sees has-waiters as it puts it.
+#[inline(always)]
+pub(crate) fn look_at_lock<T: PartTable, W: Seeking>(
     words: &SharedWords<T>,
     seat: &mut Seat<T>,
     lock: &LwLock,
@@ -314,11 +314,8 @@ pub(crate) fn look_at_lock<T: PartTable>(
     requires session { HasSession (side_of seat.old).0 }
     requires no_other_try { NoneOr (todo_at seat.old).tries (lock_number lock.now) }
     ensures same_seat { IsSameSeat seat.old seat.new }
-    ensures held { (IsHeldByNobody result → ⊥)
-        → GotNothing T.content seat.old seat.new (todo_attempted (todo_at seat.old)) }
-    ensures noted { (IsHeldByNobody result → ⊥)
-        → (side_of seat.new).0 ≡ noting (side_of seat.old).0 (SawHeld (lock_number lock.now) result) }
-    ensures free { IsHeldByNobody result → IsAsBefore T.content seat.old seat.new }
+    ensures held { (IsFreeFor W.mode result → ⊥) → SeesInTheWay T.content lock.now W.mode seat.old seat.new }
+    ensures free { IsFreeFor W.mode result → side_of seat.new ≡ side_of seat.old }
 {
-    words.load::<SeesHeld>(seat, lock.word())
+    words.load::<SeesHeld<W>>(seat, lock.word())
 }

@@ -1,13 +1,13 @@
 //! The steps by which a session takes the lightweight lock of a session's fast-path slots, and puts it.
 
-ghost use Rattle.std.specs.Prelude.{◌≡◌, ◌<◌, None, ◌≢◌, Some, []};
+ghost use Rattle.std.specs.Prelude.{◌≡◌, ◌<◌, None, ◌≢◌, Some, [], Err, IfOk};
 ghost use Rattle.lw_word.specs.declared.words.LwMode.TheVariants.{Exclusive};
 ghost use Rattle.lw_word.specs.LightweightWord.{IsHeldByNobody, taken_word};
 ghost use Rattle.lock_world.specs.Account.{SlotsInHand};
 ghost use Rattle.lock_world.specs.AccountLaw.{MayPutFastBy, MayPassBy};
 ghost use Rattle.lock_world.specs.AccountSteps.{account_putting_fast, account_passing};
 ghost use Rattle.shared_rule.specs.Marks.{PutFast, Passed, LoadedFast};
-ghost use Rattle.shared_rule.specs.Acquires.{IsAsBefore, GetsSlots};
+ghost use Rattle.shared_rule.specs.Acquires.{SeesInTheWay, GetsSlots};
 ghost use Rattle.shared_rule.specs.History.{noting};
 ghost use Rattle.shared_rule.specs.Led.{Led, LedTo};
 ghost use Rattle.shared_rule.specs.Todos.{IsLatestBy, nothing_to_do, todo_putting};
@@ -24,19 +24,21 @@ ghost use Rattle.shared_rule.specs.Boards.{StaysLone};
 
 use crate::busy::Busy;
 use crate::layout::fast_word;
+use crate::lists::look_at_lock;
+use crate::lw_locks::LwLock;
 use crate::plays::{Marking, Sizing, TakesSlots, TriesSlots};
 use crate::rule::{Seat, SharedWords};
 use crate::slot_locks::{SlotsLock, SlotsPassed, SlotsTaken};
 use crate::words::{fetch_sub_as, load_as};
 use lock_table::PartTable;
-use lw_lock::{acquire, release};
+use lw_lock::{Lost, MOST_LOST, acquire, release};
 use lw_word::{LwMode, taken};
 use modes_core::{Mode, SessionId, Tag};
 use std::marker::{Brand, PhantomData};
 use std::sync::Wait;
 
-// One attempt to take the lock of a session's slots, of as many groups as the table has, by the number that
-// its word may show.
+// One exchange that takes the lock of a session's slots, of as many groups as the table has, by the number
+// that its word may show.
 #[inline(always)]
 fn attempt_fast<T: PartTable, G: Sizing>(
     words: &SharedWords<T>,
@@ -54,7 +56,7 @@ fn attempt_fast<T: PartTable, G: Sizing>(
     requires sizes { G.sizes ≡ words.now.key }
     ensures same_seat { IsSameSeat seat.old seat.new }
     ensures won { OnTrue result (GetsSlots T.content words.now.key.groups Exclusive owner seat.old seat.new) }
-    ensures lost { OnFalse result (IsAsBefore T.content seat.old seat.new) }
+    ensures unmoved { OnFalse result ((side_of seat.new) ≡ (side_of seat.old)) }
 {
     if words.compare_exchange::<TakesSlots<G>>(seat, fast_word(owner), shown, taken) != shown {
         return false;
@@ -62,33 +64,39 @@ fn attempt_fast<T: PartTable, G: Sizing>(
     true
 }
 
-// One attempt to take the lock of a session's slots where its word shows that nobody holds it, and else none.
+// One attempt to take the lock of a session's slots: a look at its word, and an exchange where nobody holds
+// it.
 #[inline(always)]
 pub(crate) fn attempt_free_fast<T: PartTable>(
     words: &SharedWords<T>,
     seat: &mut Seat<T>,
     owner: SessionId,
-) -> bool
+) -> Result<(), Lost>
     requires table { FitsTable seat.old words.now.key words.now.table_id }
     requires exists { owner < words.now.key.sessions }
     requires session { HasSession (side_of seat.old).0 }
+    requires few { (todo_at seat.old).lost < MOST_LOST }
     requires no_other_try { NoneOr (todo_at seat.old).tries (fast_lock owner) }
     requires no_other_list { NoneOr (account_at T.content seat.old).lists.stands (fast_lock owner) }
-    ensures same_seat { IsSameSeat seat.old seat.new }
-    ensures won { OnTrue result (GetsSlots T.content words.now.key.groups Exclusive owner seat.old seat.new) }
-    ensures lost { OnFalse result (IsAsBefore T.content seat.old seat.new) }
+    ensures won { IfOk result (λ _. GetsSlots T.content words.now.key.groups Exclusive owner seat.old seat.new) }
+    ensures held { result ≡ Err Lost.Held → SeesInTheWay T.content (OfSlots owner) Exclusive seat.old seat.new }
+    ensures same_seat { result ≡ Err Lost.Changed → IsSameSeat seat.old seat.new }
+    ensures unmoved { result ≡ Err Lost.Changed → side_of seat.new ≡ side_of seat.old }
 {
-    let shown = words.peek(fast_word(owner));
-    match taken(shown) {
-        Some(taken) => attempt_fast::<T, Brand>(words, seat, owner, shown, taken),
-        None => false,
+    let shown = look_at_lock::<T, Brand>(words, seat, &LwLock::OfSlots(owner));
+    let Some(taken) = taken(shown) else {
+        return Err(Lost::Held);
+    };
+    if attempt_fast::<T, Brand>(words, seat, owner, shown, taken) {
+        return Ok(());
     }
+    Err(Lost::Changed)
 }
 
 /// Takes the lock of the fast-path slots of `owner` exclusively, whether that number is issued or not
 /// (`LWLockAcquire` of `fpInfoLock` in lwlock.c). The call waits in the lock's wait list until the lock is
 /// free.
-#[inline]
+#[inline(always)]
 pub(crate) fn take_fast<T: PartTable, R: Wait>(
     rt: &R,
     words: &SharedWords<T>,

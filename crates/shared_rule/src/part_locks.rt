@@ -7,7 +7,6 @@ ghost use Rattle.shared_rule.specs.declared.lw_locks.LwLock.TheVariants.{OfPart}
 ghost use Rattle.shared_rule.specs.Acquires.{TakesPartition};
 ghost use Rattle.shared_rule.specs.Waiting.{sought_of, IsOnWay};
 
-use crate::lists::look_at_lock;
 use crate::lw_locks::LwLock;
 use crate::partitions::{attempt_free_part, put_part_home};
 use crate::plays::Marking;
@@ -15,8 +14,8 @@ use crate::queues::{dequeue_self, queue_self, sleep_for};
 use crate::rule::{Seat, SharedWords};
 use crate::wakeups::wake_waiters;
 use lock_table::{Move, PartTable};
-use lw_lock::{Acquirable, Guarded, Held, acquire_held};
-use lw_word::{LwMode, taken};
+use lw_lock::{Acquirable, Guarded, Held, Lost, acquire_changed, acquire_held};
+use lw_word::LwMode;
 use modes_core::SessionId;
 use std::marker::PhantomData;
 use std::sync::Wait;
@@ -36,8 +35,8 @@ impl<'a, T: PartTable> Guarded<Seat<T>, T> for PartLock<'a, T> {
     ghost use Rattle.shared_rule.specs.Acquires.{TakesPartition};
     ghost use Rattle.shared_rule.specs.Waiting.{sought_of, IsOnWay, IsQueued, HasSeenHeld, HasWonQueued};
 
-    ghost on_way = { λ it. IsOnWay T.content
-        (sought_of it.words.now.key it.words.now.table_id it.number (OfPart it.part) Exclusive) };
+    ghost on_way = { λ it lost. IsOnWay T.content
+        (sought_of it.words.now.key it.words.now.table_id it.number (OfPart it.part) Exclusive) lost };
 
     ghost queued = { λ it. IsQueued T.content
         (sought_of it.words.now.key it.words.now.table_id it.number (OfPart it.part) Exclusive) };
@@ -52,7 +51,7 @@ impl<'a, T: PartTable> Guarded<Seat<T>, T> for PartLock<'a, T> {
     ghost won = { λ it. TakesPartition T.content T.begun it.words.now.key.sessions it.part };
 
     #[inline(always)]
-    fn attempt(&self, seat: &mut Seat<T>) -> Option<T> {
+    fn attempt(&self, seat: &mut Seat<T>) -> Result<T, Lost> {
         attempt_free_part(self.words, seat, self.part)
     }
 
@@ -61,12 +60,8 @@ impl<'a, T: PartTable> Guarded<Seat<T>, T> for PartLock<'a, T> {
         queue_self(rt, self.words, seat, self.number, &lock, LwMode::Exclusive);
     }
 
-    fn attempt_again(&self, seat: &mut Seat<T>) -> Option<T> {
+    fn attempt_again(&self, seat: &mut Seat<T>) -> Result<T, Lost> {
         attempt_free_part(self.words, seat, self.part)
-    }
-
-    fn is_held(&self, seat: &mut Seat<T>) -> bool {
-        taken(look_at_lock(self.words, seat, &LwLock::OfPart(self.part))).is_none()
     }
 
     fn dequeue_self<R: Wait>(&self, rt: &R, seat: &mut Seat<T>) {
@@ -85,6 +80,38 @@ impl<'a, T: PartTable> Acquirable<Seat<T>, T> for PartLock<'a, T> {
     fn acquire_held<R: Wait>(&self, rt: &R, seat: &mut Seat<T>) -> T {
         take_part_held(rt, self.words, seat, self.number, self.part)
     }
+
+    #[inline(always)]
+    fn acquire_changed<R: Wait>(&self, rt: &R, seat: &mut Seat<T>) -> T {
+        take_part_changed(rt, self.words, seat, self.number, self.part)
+    }
+}
+
+// Takes a partition after an exchange that was lost.
+#[cold]
+#[inline(never)]
+fn take_part_changed<T: PartTable, R: Wait>(
+    rt: &R,
+    words: &SharedWords<T>,
+    seat: &mut Seat<T>,
+    number: SessionId,
+    part: u8,
+) -> T
+    requires { IsSince (IsOnWay T.content
+        (sought_of words.now.key words.now.table_id number (OfPart part) Exclusive) 0) seat.old }
+    ensures { Gains (IsOnWay T.content
+        (sought_of words.now.key words.now.table_id number (OfPart part) Exclusive) 0)
+        (TakesPartition T.content T.begun words.now.key.sessions part) seat.old seat.new result }
+{
+    acquire_changed(
+        rt,
+        seat,
+        &PartLock {
+            words,
+            number,
+            part,
+        },
+    )
 }
 
 // Takes a partition after an attempt that was lost.
@@ -98,9 +125,9 @@ fn take_part_held<T: PartTable, R: Wait>(
     part: u8,
 ) -> T
     requires { IsSince (IsOnWay T.content
-        (sought_of words.now.key words.now.table_id number (OfPart part) Exclusive)) seat.old }
+        (sought_of words.now.key words.now.table_id number (OfPart part) Exclusive) 1) seat.old }
     ensures { Gains (IsOnWay T.content
-        (sought_of words.now.key words.now.table_id number (OfPart part) Exclusive))
+        (sought_of words.now.key words.now.table_id number (OfPart part) Exclusive) 1)
         (TakesPartition T.content T.begun words.now.key.sessions part) seat.old seat.new result }
 {
     acquire_held(

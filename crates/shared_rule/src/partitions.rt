@@ -1,21 +1,20 @@
 //! The steps by which a session takes a partition's lightweight lock with its content, and puts both home.
 
-ghost use Rattle.std.specs.Prelude.{◌≡◌, ◌<◌, ◌∷◌, ℕ, None, [], IfSome, IfNone};
+ghost use Rattle.std.specs.Prelude.{◌≡◌, ◌<◌, ◌∷◌, None, [], Err, IfOk, IfSome, IfNone};
 ghost use Rattle.atomic_table.specs.Table.{rest};
 ghost use Rattle.lw_word.specs.LightweightWord.{IsHeldByNobody, taken_word};
 ghost use Rattle.lock_world.specs.Account.{InHand};
 ghost use Rattle.lock_world.specs.AccountSteps.{account_putting};
-ghost use Rattle.lock_world.specs.AccountFacts.{KnowsContent};
-ghost use Rattle.shared_rule.specs.Marks.{TookPart, PutPart};
+ghost use Rattle.shared_rule.specs.Marks.{PutPart};
 ghost use Rattle.shared_rule.specs.declared.kept.Kept.TheVariants.{Nothing};
 ghost use Rattle.shared_rule.specs.declared.lw_locks.LwLock.TheVariants.{OfPart};
-ghost use Rattle.shared_rule.specs.Acquires.{GotNothing, IsAsBefore, TakesPartition};
-ghost use Rattle.shared_rule.specs.Todos.{IsLatestBy, TriesAtMost, nothing_to_do, todo_attempted, todo_putting, todo_back};
+ghost use Rattle.shared_rule.specs.Acquires.{SeesInTheWay, TakesPartition};
+ghost use Rattle.shared_rule.specs.Todos.{IsLatestBy, nothing_to_do, todo_putting};
 ghost use Rattle.lock_world.specs.WaitLists.{partition_lock};
 ghost use Rattle.lock_world.specs.Wakes.Waking.{NoneOr};
 ghost use Rattle.lw_word.specs.declared.words.LwMode.TheVariants.{Exclusive};
 ghost use Rattle.lw_word.specs.LockState.{state_of, put_in};
-ghost use Rattle.shared_rule.specs.History.{noting, taken_of};
+ghost use Rattle.shared_rule.specs.History.{taken_of};
 ghost use Rattle.shared_rule.specs.Layout.{content_shelf_of};
 ghost use Rattle.shared_rule.specs.Lawful.{MayPutPart};
 ghost use Rattle.shared_rule.specs.Led.{Led, LedTo};
@@ -24,18 +23,20 @@ ghost use Rattle.shared_rule.specs.Plays.{account_at, number_at, todo_at, owed_a
 
 use crate::kept::Kept;
 use crate::layout::{content_shelf, partition_word};
+use crate::lists::look_at_lock;
+use crate::lw_locks::LwLock;
 use crate::part_locks::{PartInHand, PartLock};
 use crate::plays::{Marking, Sizing, TakesPart};
 use crate::rule::{Seat, SharedWords};
 use crate::words::put_home_as;
 use lock_table::{Move, PartTable};
-use lw_lock::{acquire, release};
+use lw_lock::{Lost, MOST_LOST, acquire, release};
 use lw_word::taken;
 use modes_core::SessionId;
 use std::marker::{Brand, PhantomData};
 use std::sync::Wait;
 
-// One attempt to take a partition in hand, by the number that its word may show.
+// One exchange that takes a partition in hand, by the number that its word may show.
 fn attempt_part<T: PartTable, G: Sizing>(
     words: &SharedWords<T>,
     seat: &mut Seat<T>,
@@ -51,10 +52,7 @@ fn attempt_part<T: PartTable, G: Sizing>(
     requires no_other_try { NoneOr (todo_at seat.old).tries (partition_lock part) }
     requires no_other_list { NoneOr (account_at T.content seat.old).lists.stands (partition_lock part) }
     ensures same_seat { IsSameSeat seat.old seat.new }
-    ensures lost { IfNone result (IsAsBefore T.content seat.old seat.new) }
     ensures won { IfSome result (TakesPartition T.content T.begun words.now.key.sessions part seat.old seat.new) }
-    ensures side { IfSome result (λ content. (side_of seat.new)
-        ≡ (noting (side_of seat.old).0 (TookPart part content), (content_shelf_of part, Nothing) ∷ (side_of seat.old).1)) }
     ensures unmoved { IfNone result ((side_of seat.new) ≡ (side_of seat.old)) }
 {
     if words.compare_exchange::<TakesPart<G>>(seat, partition_word(part), shown, taken) != shown {
@@ -67,29 +65,31 @@ fn attempt_part<T: PartTable, G: Sizing>(
     )
 }
 
-// One attempt to take a partition in hand where its word shows that nobody holds its lock, and else none.
+// One attempt to take a partition in hand: a look at its lock's word, and an exchange where nobody holds it.
 #[inline(always)]
 pub(crate) fn attempt_free_part<T: PartTable>(
     words: &SharedWords<T>,
     seat: &mut Seat<T>,
     part: u8,
-) -> Option<T>
+) -> Result<T, Lost>
     requires table { FitsTable seat.old words.now.key words.now.table_id }
     requires exists { part < 16 }
     requires session { HasSession (side_of seat.old).0 }
+    requires few { (todo_at seat.old).lost < MOST_LOST }
     requires no_other_try { NoneOr (todo_at seat.old).tries (partition_lock part) }
     requires no_other_list { NoneOr (account_at T.content seat.old).lists.stands (partition_lock part) }
-    ensures same_seat { IsSameSeat seat.old seat.new }
-    ensures lost { IfNone result (IsAsBefore T.content seat.old seat.new) }
-    ensures won { IfSome result (TakesPartition T.content T.begun words.now.key.sessions part seat.old seat.new) }
-    ensures side { IfSome result (λ content. (side_of seat.new)
-        ≡ (noting (side_of seat.old).0 (TookPart part content), (content_shelf_of part, Nothing) ∷ (side_of seat.old).1)) }
-    ensures unmoved { IfNone result ((side_of seat.new) ≡ (side_of seat.old)) }
+    ensures won { IfOk result (TakesPartition T.content T.begun words.now.key.sessions part seat.old seat.new) }
+    ensures held { result ≡ Err Lost.Held → SeesInTheWay T.content (OfPart part) Exclusive seat.old seat.new }
+    ensures same_seat { result ≡ Err Lost.Changed → IsSameSeat seat.old seat.new }
+    ensures unmoved { result ≡ Err Lost.Changed → side_of seat.new ≡ side_of seat.old }
 {
-    let shown = words.peek(partition_word(part));
+    let shown = look_at_lock::<T, Brand>(words, seat, &LwLock::OfPart(part));
     match taken(shown) {
-        Some(taken) => attempt_part::<T, Brand>(words, seat, part, shown, taken),
-        None => None,
+        Some(taken) => match attempt_part::<T, Brand>(words, seat, part, shown, taken) {
+            Some(content) => Ok(content),
+            None => Err(Lost::Changed),
+        },
+        None => Err(Lost::Held),
     }
 }
 
@@ -106,15 +106,14 @@ pub(crate) fn take_part_alone<T: PartTable, R: Wait>(
     requires session { HasSession (side_of seat.old).0 }
     requires no_other_try { NoneOr (todo_at seat.old).tries (partition_lock part) }
     requires no_other_list { NoneOr (account_at T.content seat.old).lists.stands (partition_lock part) }
-    ensures same_seat { IsSameSeat seat.old seat.new }
-    ensures side { (side_of seat.new)
-        ≡ (noting (side_of seat.old).0 (TookPart part result), (content_shelf_of part, Nothing) ∷ (side_of seat.old).1) }
-    ensures none_begun { T.begun result ≡ None }
-    ensures knows { KnowsContent (number_at seat.old) (account_at T.content seat.old) part (T.content result) }
+    ensures { TakesPartition T.content T.begun words.now.key.sessions part seat.old seat.new result }
 {
     for _ in rt.forever() {
-        if let Some(content) = attempt_free_part(words, seat, part) {
-            return content;
+        let found = look_at_lock::<T, Brand>(words, seat, &LwLock::OfPart(part));
+        if let Some(taken) = taken(found) {
+            if let Some(content) = attempt_part::<T, Brand>(words, seat, part, found, taken) {
+                return content;
+            }
         }
     }
     unreachable!()
@@ -123,7 +122,7 @@ pub(crate) fn take_part_alone<T: PartTable, R: Wait>(
 /// Takes the lightweight lock of partition `part` exclusively, and its content in hand (`LWLockAcquire` in
 /// lwlock.c). The call waits in the lock's list until the lock is free. The answer is the content, of which
 /// the caller learns what the account of the session `number` knows of it.
-#[inline]
+#[inline(always)]
 pub(crate) fn take_part<T: PartTable, R: Wait>(
     rt: &R,
     words: &SharedWords<T>,

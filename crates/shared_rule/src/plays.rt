@@ -32,6 +32,20 @@ impl Sizing for Brand {
     ghost sizes = { record { sessions = 0; groups = 0 } };
 }
 
+/// The mode in which a session comes for a lightweight lock, as a look at the lock's word knows it. Each call
+/// that looks names the mode.
+pub trait Seeking {
+    ghost use Rattle.lw_word.specs.declared.words.LwMode.{LwMode};
+
+    ghost mode: { LwMode };
+}
+
+impl Seeking for Brand {
+    ghost use Rattle.lw_word.specs.declared.words.LwMode.TheVariants.{Exclusive};
+
+    ghost mode = { Exclusive };
+}
+
 /// A step that leaves its mark.
 pub struct Marks<M> {
     of: PhantomData<M>,
@@ -126,14 +140,16 @@ impl<T: PartTable, G: Sizing> Play<Kept<T>, PlacedView<T>> for LocksList<G> {
     ghost then = { Unplaced (LockedListOr T.content G.sizes.sessions) };
 }
 
-/// A load of a lightweight word that is noted as a look where it shows that somebody holds the lock, and else
-/// changes nothing.
-pub struct SeesHeld;
+/// A load of a lightweight word that is noted as a look where it shows somebody in the way of a mode, and
+/// else changes nothing.
+pub struct SeesHeld<W> {
+    of: PhantomData<W>,
+}
 
-impl<T> Play<Kept<T>, PlacedView<T>> for SeesHeld {
+impl<T, W: Seeking> Play<Kept<T>, PlacedView<T>> for SeesHeld<W> {
     ghost use Rattle.shared_rule.specs.Plays.{Unplaced, SawHeldOr};
 
-    ghost then = { Unplaced SawHeldOr };
+    ghost then = { Unplaced (SawHeldOr W.mode) };
 }
 
 /// A load that changes nothing, and shows the opener that each session that has closed was given out, and

@@ -23,7 +23,7 @@ ghost use Rattle.shared_rule.specs.declared.kept.Kept.TheVariants.{Nothing};
 ghost use Rattle.shared_rule.specs.Layout.{list_shelf_of};
 ghost use Rattle.shared_rule.specs.Led.{Led, LedTo};
 ghost use Rattle.shared_rule.specs.Todos.{HasBy, IsLatestBy, MaySleepBy, TellsNobodyBy, TriesAtMost};
-ghost use Rattle.shared_rule.specs.Todos.{nothing_to_do, todo_in_list, todo_got, todo_back};
+ghost use Rattle.shared_rule.specs.Todos.{nothing_to_do, todo_in_list, todo_held, todo_got, todo_back};
 ghost use Rattle.shared_rule.specs.LwLocks.{lock_number, LockExists, no_lists, queued_for};
 ghost use Rattle.shared_rule.specs.Waiters.{WaitersExist};
 ghost use Rattle.shared_rule.specs.Plays.{account_at, number_at, todo_at, owed_at, FitsTable, HasSession, side_of};
@@ -186,7 +186,7 @@ pub(crate) fn sleep_for<T: PartTable, R: Wait>(
     requires own { number ≡ number_at seat.old }
     requires among { number < words.now.key.sessions }
     requires queued { (account_at T.content seat.old).lists ≡ queued_for (lock_number lock.now) }
-    requires todo { todo_at seat.old ≡ todo_got (lock_number lock.now) }
+    requires todo { todo_at seat.old ≡ todo_held (lock_number lock.now) }
     requires latest { IsLatestBy (account_at T.content seat.old) lock.now }
     requires wakes_nobody { owed_at seat.old ≡ [] }
     ensures led { LedTo T.content seat.old seat.new

@@ -153,6 +153,7 @@ impl<'a, T: PartTable> Board<T> for SeatBoard<'a, T> {
         self.sizes.groups
     }
 
+    #[inline(always)]
     fn take_part<R: Wait>(&mut self, rt: &R, part: u8) -> T {
         partitions::take_part(rt, self.table, &mut self.seat, self.number, part)
     }
@@ -161,6 +162,7 @@ impl<'a, T: PartTable> Board<T> for SeatBoard<'a, T> {
         partitions::put_part::<T, Brand>(self.table, &mut self.seat, part, done, content);
     }
 
+    #[inline(always)]
     fn take_fast<R: Wait>(&mut self, rt: &R, owner: SessionId) {
         locks::take_fast(rt, self.table, &mut self.seat, self.number, owner);
     }
@@ -173,6 +175,7 @@ impl<'a, T: PartTable> Board<T> for SeatBoard<'a, T> {
         locks::put_fast::<T, Brand>(self.table, &mut self.seat, owner);
     }
 
+    #[inline(always)]
     fn share_fast<R: Wait>(&mut self, rt: &R, owner: SessionId) {
         sharing::share_fast(rt, self.table, &mut self.seat, self.number, owner);
     }

@@ -2,14 +2,14 @@
 //! and nobody write them.
 
 ghost use Rattle.std.specs.Bool.{OnTrue, OnFalse};
-ghost use Rattle.std.specs.Prelude.{◌≡◌, ◌<◌, None, []};
+ghost use Rattle.std.specs.Prelude.{◌≡◌, ◌<◌, None, [], Err, IfOk};
 ghost use Rattle.lw_word.specs.declared.words.LwMode.TheVariants.{Shared};
 ghost use Rattle.lw_word.specs.LightweightWord.{IsFreeToShare, shared_word};
 ghost use Rattle.lock_world.specs.Account.{SlotsInHand};
 ghost use Rattle.lock_world.specs.AccountLaw.{MayShareFastBy, MayUnshareFastBy};
 ghost use Rattle.shared_rule.specs.Marks.{UnsharedFast};
 ghost use Rattle.lock_world.specs.AccountSteps.{account_unsharing_fast};
-ghost use Rattle.shared_rule.specs.Acquires.{IsAsBefore, GetsSlots};
+ghost use Rattle.shared_rule.specs.Acquires.{SeesInTheWay, GetsSlots};
 ghost use Rattle.shared_rule.specs.Led.{Led, LedTo};
 ghost use Rattle.shared_rule.specs.Todos.{IsLatestBy, nothing_to_do, todo_putting};
 ghost use Rattle.shared_rule.specs.declared.lw_locks.LwLock.TheVariants.{OfSlots};
@@ -20,19 +20,21 @@ ghost use Rattle.shared_rule.specs.LwLocks.{no_lists};
 ghost use Rattle.shared_rule.specs.Plays.{account_at, number_at, todo_at, owed_at, FitsTable, HasSession, IsSameSeat, side_of};
 
 use crate::layout::fast_word;
+use crate::lists::look_at_lock;
+use crate::lw_locks::LwLock;
 use crate::plays::{Marking, SharesSlots, Sizing};
 use crate::rule::{Seat, SharedWords};
 use crate::slot_locks::{SlotsLock, SlotsShared};
 use crate::words::fetch_sub_as;
 use lock_table::PartTable;
-use lw_lock::{acquire, release};
+use lw_lock::{Lost, MOST_LOST, acquire, release};
 use lw_word::{LwMode, shared};
 use modes_core::SessionId;
 use std::marker::{Brand, PhantomData};
 use std::sync::Wait;
 
-// One attempt to share the lock of a session's slots, of as many groups as the table has, by the number that
-// its word may show.
+// One exchange that shares the lock of a session's slots, of as many groups as the table has, by the number
+// that its word may show.
 #[inline(always)]
 fn attempt_share<T: PartTable, G: Sizing>(
     words: &SharedWords<T>,
@@ -51,7 +53,7 @@ fn attempt_share<T: PartTable, G: Sizing>(
     requires sizes { G.sizes ≡ words.now.key }
     ensures same_seat { IsSameSeat seat.old seat.new }
     ensures won { OnTrue result (GetsSlots T.content words.now.key.groups Shared owner seat.old seat.new) }
-    ensures lost { OnFalse result (IsAsBefore T.content seat.old seat.new) }
+    ensures unmoved { OnFalse result ((side_of seat.new) ≡ (side_of seat.old)) }
 {
     if words.compare_exchange::<SharesSlots<G>>(seat, fast_word(owner), shown, shared) != shown {
         return false;
@@ -59,35 +61,40 @@ fn attempt_share<T: PartTable, G: Sizing>(
     true
 }
 
-// One attempt to share the lock of a session's slots where its word shows that nobody holds it exclusively,
-// and else none.
+// One attempt to share the lock of a session's slots: a look at its word, and an exchange where nobody holds
+// it exclusively.
 #[inline(always)]
 pub(crate) fn attempt_free_share<T: PartTable>(
     words: &SharedWords<T>,
     seat: &mut Seat<T>,
     owner: SessionId,
-) -> bool
+) -> Result<(), Lost>
     requires table { FitsTable seat.old words.now.key words.now.table_id }
     requires exists { owner < words.now.key.sessions }
     requires session { HasSession (side_of seat.old).0 }
     requires lawful { MayShareFastBy (account_at T.content seat.old) owner }
+    requires few { (todo_at seat.old).lost < MOST_LOST }
     requires no_other_try { NoneOr (todo_at seat.old).tries (fast_lock owner) }
     requires no_other_list { NoneOr (account_at T.content seat.old).lists.stands (fast_lock owner) }
-    ensures same_seat { IsSameSeat seat.old seat.new }
-    ensures won { OnTrue result (GetsSlots T.content words.now.key.groups Shared owner seat.old seat.new) }
-    ensures lost { OnFalse result (IsAsBefore T.content seat.old seat.new) }
+    ensures won { IfOk result (λ _. GetsSlots T.content words.now.key.groups Shared owner seat.old seat.new) }
+    ensures held { result ≡ Err Lost.Held → SeesInTheWay T.content (OfSlots owner) Shared seat.old seat.new }
+    ensures same_seat { result ≡ Err Lost.Changed → IsSameSeat seat.old seat.new }
+    ensures unmoved { result ≡ Err Lost.Changed → side_of seat.new ≡ side_of seat.old }
 {
-    let shown = words.peek(fast_word(owner));
-    match shared(shown) {
-        Some(shared) => attempt_share::<T, Brand>(words, seat, owner, shown, shared),
-        None => false,
+    let shown = look_at_lock::<T, Brand>(words, seat, &LwLock::OfSlots(owner));
+    let Some(shared) = shared(shown) else {
+        return Err(Lost::Held);
+    };
+    if attempt_share::<T, Brand>(words, seat, owner, shown, shared) {
+        return Ok(());
     }
+    Err(Lost::Changed)
 }
 
 /// Shares the lock of the fast-path slots of `owner`, whether that number is issued or not (`LWLockAcquire`
 /// of `fpInfoLock` with `LW_SHARED` in lwlock.c). The call waits in the lock's list until nobody holds the
 /// lock exclusively.
-#[inline]
+#[inline(always)]
 pub(crate) fn share_fast<T: PartTable, R: Wait>(
     rt: &R,
     words: &SharedWords<T>,

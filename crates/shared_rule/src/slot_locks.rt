@@ -1,16 +1,15 @@
 //! The lock of a session's fast-path slots, as a session comes for it, to write them or to read them, and as
 //! it puts it (`fpInfoLock` in proc.h).
 
-ghost use Rattle.std.specs.Prelude.{◌<◌, IfSome, IfNone};
+ghost use Rattle.std.specs.Prelude.{◌≡◌, ◌<◌, Err, IfOk};
 ghost use Rattle.lock_world.specs.WaitLists.{fast_lock};
 ghost use Rattle.lw_lock.specs.Since.{IsSince, TurnsInto};
 ghost use Rattle.shared_rule.specs.declared.lw_locks.LwLock.TheVariants.{OfSlots};
 ghost use Rattle.shared_rule.specs.Waiting.{sought_of, IsOnWay};
 ghost use Rattle.lock_world.specs.Wakes.Waking.{NoneOr};
-ghost use Rattle.shared_rule.specs.Acquires.{IsAsBefore, MayGetSlots, GetsSlots};
-ghost use Rattle.shared_rule.specs.Plays.{side_of, account_at, todo_at, FitsTable, HasSession};
+ghost use Rattle.shared_rule.specs.Acquires.{SeesInTheWay, MayGetSlots, GetsSlots};
+ghost use Rattle.shared_rule.specs.Plays.{side_of, account_at, todo_at, FitsTable, HasSession, IsSameSeat};
 
-use crate::lists::look_at_lock;
 use crate::locks::{attempt_free_fast, pass_fast_home, put_fast_home};
 use crate::lw_locks::LwLock;
 use crate::plays::Marking;
@@ -19,8 +18,8 @@ use crate::rule::{Seat, SharedWords};
 use crate::sharing::{attempt_free_share, unshare_fast_home};
 use crate::wakeups::wake_waiters;
 use lock_table::PartTable;
-use lw_lock::{Acquirable, Guarded, Held, acquire_held};
-use lw_word::{LwMode, shared, taken};
+use lw_lock::{Acquirable, Guarded, Held, Lost, MOST_LOST, acquire_changed, acquire_held};
+use lw_word::LwMode;
 use modes_core::{Mode, SessionId, Tag};
 use std::marker::PhantomData;
 use std::sync::Wait;
@@ -38,22 +37,25 @@ pub(crate) struct SlotsLock<'a, T: PartTable> {
 impl<'a, T: PartTable> SlotsLock<'a, T> {
     // One attempt, where the word shows that nobody is in the way.
     #[inline(always)]
-    fn attempt_free(&self, seat: &mut Seat<T>) -> Option<()>
+    fn attempt_free(&self, seat: &mut Seat<T>) -> Result<(), Lost>
         requires table { FitsTable seat.old self.now.words.now.key self.now.words.now.table_id }
         requires exists { self.now.owner < self.now.words.now.key.sessions }
         requires session { HasSession (side_of seat.old).0 }
         requires lawful { MayGetSlots self.now.mode (account_at T.content seat.old) self.now.owner }
+        requires few { (todo_at seat.old).lost < MOST_LOST }
         requires no_other_try { NoneOr (todo_at seat.old).tries (fast_lock self.now.owner) }
         requires no_other_list { NoneOr (account_at T.content seat.old).lists.stands (fast_lock self.now.owner) }
-        ensures won { IfSome result (λ _. GetsSlots T.content self.now.words.now.key.groups self.now.mode self.now.owner
+        ensures won { IfOk result (λ _. GetsSlots T.content self.now.words.now.key.groups self.now.mode self.now.owner
             seat.old seat.new) }
-        ensures lost { IfNone result (IsAsBefore T.content seat.old seat.new) }
+        ensures held { result ≡ Err Lost.Held →
+            SeesInTheWay T.content (OfSlots self.now.owner) self.now.mode seat.old seat.new }
+        ensures same_seat { result ≡ Err Lost.Changed → IsSameSeat seat.old seat.new }
+        ensures unmoved { result ≡ Err Lost.Changed → side_of seat.new ≡ side_of seat.old }
     {
-        let won = match self.mode {
+        match self.mode {
             LwMode::Exclusive => attempt_free_fast(self.words, seat, self.owner),
             LwMode::Shared => attempt_free_share(self.words, seat, self.owner),
-        };
-        if won { Some(()) } else { None }
+        }
     }
 }
 
@@ -62,8 +64,8 @@ impl<'a, T: PartTable> Guarded<Seat<T>, ()> for SlotsLock<'a, T> {
     ghost use Rattle.shared_rule.specs.Acquires.{GetsSlots};
     ghost use Rattle.shared_rule.specs.Waiting.{sought_of, IsOnWay, IsQueued, HasSeenHeld, HasWonQueued};
 
-    ghost on_way = { λ it. IsOnWay T.content
-        (sought_of it.words.now.key it.words.now.table_id it.number (OfSlots it.owner) it.mode) };
+    ghost on_way = { λ it lost. IsOnWay T.content
+        (sought_of it.words.now.key it.words.now.table_id it.number (OfSlots it.owner) it.mode) lost };
 
     ghost queued = { λ it. IsQueued T.content
         (sought_of it.words.now.key it.words.now.table_id it.number (OfSlots it.owner) it.mode) };
@@ -78,7 +80,7 @@ impl<'a, T: PartTable> Guarded<Seat<T>, ()> for SlotsLock<'a, T> {
     ghost won = { λ it first now _. GetsSlots T.content it.words.now.key.groups it.mode it.owner first now };
 
     #[inline(always)]
-    fn attempt(&self, seat: &mut Seat<T>) -> Option<()> {
+    fn attempt(&self, seat: &mut Seat<T>) -> Result<(), Lost> {
         self.attempt_free(seat)
     }
 
@@ -87,16 +89,8 @@ impl<'a, T: PartTable> Guarded<Seat<T>, ()> for SlotsLock<'a, T> {
         queue_self(rt, self.words, seat, self.number, &lock, self.mode);
     }
 
-    fn attempt_again(&self, seat: &mut Seat<T>) -> Option<()> {
+    fn attempt_again(&self, seat: &mut Seat<T>) -> Result<(), Lost> {
         self.attempt_free(seat)
-    }
-
-    fn is_held(&self, seat: &mut Seat<T>) -> bool {
-        let shown = look_at_lock(self.words, seat, &LwLock::OfSlots(self.owner));
-        match self.mode {
-            LwMode::Exclusive => taken(shown).is_none(),
-            LwMode::Shared => shared(shown).is_none(),
-        }
     }
 
     fn dequeue_self<R: Wait>(&self, rt: &R, seat: &mut Seat<T>) {
@@ -115,6 +109,40 @@ impl<'a, T: PartTable> Acquirable<Seat<T>, ()> for SlotsLock<'a, T> {
     fn acquire_held<R: Wait>(&self, rt: &R, seat: &mut Seat<T>) {
         get_slots_held(rt, self.words, seat, self.number, self.owner, self.mode);
     }
+
+    #[inline(always)]
+    fn acquire_changed<R: Wait>(&self, rt: &R, seat: &mut Seat<T>) {
+        get_slots_changed(rt, self.words, seat, self.number, self.owner, self.mode);
+    }
+}
+
+// Gets the lock of a session's slots after an exchange that was lost.
+#[cold]
+#[inline(never)]
+fn get_slots_changed<T: PartTable, R: Wait>(
+    rt: &R,
+    words: &SharedWords<T>,
+    seat: &mut Seat<T>,
+    number: SessionId,
+    owner: SessionId,
+    mode: LwMode,
+)
+    requires { IsSince (IsOnWay T.content
+        (sought_of words.now.key words.now.table_id number (OfSlots owner) mode) 0) seat.old }
+    ensures { TurnsInto (IsOnWay T.content
+        (sought_of words.now.key words.now.table_id number (OfSlots owner) mode) 0)
+        (GetsSlots T.content words.now.key.groups mode owner) seat.old seat.new }
+{
+    acquire_changed(
+        rt,
+        seat,
+        &SlotsLock {
+            words,
+            number,
+            owner,
+            mode,
+        },
+    )
 }
 
 // Gets the lock of a session's slots after an attempt that was lost.
@@ -129,9 +157,9 @@ fn get_slots_held<T: PartTable, R: Wait>(
     mode: LwMode,
 )
     requires { IsSince (IsOnWay T.content
-        (sought_of words.now.key words.now.table_id number (OfSlots owner) mode)) seat.old }
+        (sought_of words.now.key words.now.table_id number (OfSlots owner) mode) 1) seat.old }
     ensures { TurnsInto (IsOnWay T.content
-        (sought_of words.now.key words.now.table_id number (OfSlots owner) mode))
+        (sought_of words.now.key words.now.table_id number (OfSlots owner) mode) 1)
         (GetsSlots T.content words.now.key.groups mode owner) seat.old seat.new }
 {
     acquire_held(

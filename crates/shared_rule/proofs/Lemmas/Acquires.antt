@@ -129,7 +129,7 @@ module _ {T : Type 0} (content : T → Content) where
       (queues : LedTo content before queued (with_lists (account_at content before) (queued_for lock)) (todo_in_list lock)) (same : (side_of queued).1 ≡ (side_of before).1) where
     -- Either way there is nothing else to attempt.
     once-tried : nothing_to_do ≡ todo_attempted (todo_at before)
-    once-tried = λ i. record { due = sym tries.no_look i; tries = None; owes_release_ok = sym tries.no_ok i; calls = sym tries.calls_nobody i }
+    once-tried = λ i. record { due = sym tries.no_look i; tries = None; owes_release_ok = sym tries.no_ok i; calls = sym tries.calls_nobody i; lost = 0 }
 
     -- A partition was got,
     pub took_part-between :

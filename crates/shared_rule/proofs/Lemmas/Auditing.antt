@@ -20,16 +20,15 @@ use Rattle.lock_world.specs.Tallies.{joined, modes_shown, shown_in_slots, ShowsL
 use Rattle.lock_world.specs.World.{TraceEntry, Loaded}
 use Rattle.lock_world.proofs.Lemmas.Tallies.Lists.{joined-more, joined-same}
 use Rattle.lock_world.proofs.Lemmas.Tallies.Sums.{total-more}
-use Rattle.shared_rule.specs.declared.history.Mark.{Mark}
 use Rattle.shared_rule.specs.declared.history.View.{View}
 use Rattle.shared_rule.specs.History.{noting, taken_of, first_account, first_number}
-use Rattle.shared_rule.specs.Marks.{LoadedSlot, LoadedStrong, TookPart}
+use Rattle.shared_rule.specs.Marks.{LoadedSlot, LoadedStrong}
 use Rattle.shared_rule.specs.Plays.{HasSession}
 use Rattle.shared_rule.specs.Lawful.{IsAboveHand}
 use Rattle.shared_rule.specs.Gatherings.{most_shown, account_among, counted_at, HasAllInHand, AreAll, gathered_in, KnowsOfAll, KnowsAll}
 use Rattle.shared_rule.specs.Audits.{account_after, counter_loads, CountersSeen, slot_loads_of, all_slot_loads, IsFurther, HasPartInHand, holding_steps, SeesSlots, SeesAllSlots, Finds, CountsFrom}
 use Rattle.shared_rule.proofs.Lemmas.Episodes.{fresh_hand, taken-in_hand, kept-since}
-use Rattle.shared_rule.proofs.Lemmas.FurtherViews.{noting-some, noting-further, further-itself, further-then, further-all, account-noting, number, distinct-before, none_waits-after, stand-before, left-before, counted-before}
+use Rattle.shared_rule.proofs.Lemmas.FurtherViews.{noting-further, further-itself, further-then, further-all, account-noting, number, distinct-before, none_waits-after, stand-before, left-before, counted-before}
 
 -- ---- slots
 
@@ -261,32 +260,16 @@ module _ {T : Type 0} (content : T → Content) (groups issued limit p : ℕ) (b
             (there.0, set_at-else (first_account content before.sessions).hand p (Some (fresh_hand taken)) k other ∙ there.1, there.2)
       ])
 
--- After a step there is a session still, and after a partition was taken it has none above in hand.
-pub took-session : {T : Type 0} (before after : View T) (mark : Mark T) → HasSession before → after ≡ noting before mark → HasSession after
-took-session before after mark has is = subst HasSession (sym is) (noting-some before mark has)
-
-pub took-above : {T : Type 0} (content : T → Content) (p : ℕ) (before after : View T) (part : T) → HasSession before → after ≡ noting before (TookPart p part)
-    → IsAboveHand (first_account content before.sessions) p → IsAboveHand (first_account content after.sessions) (p + 1)
-took-above {T} content p before after part has is above =
-    let account = ap (λ (v : View T). first_account content v.sessions) is ∙ account-noting content before (TookPart p part) has in
-    subst (λ (a : Account). IsAboveHand a (p + 1)) (sym account)
-    (λ k later.
-    set_at-else (first_account content before.sessions).hand p (Some (fresh_hand (content part))) k (λ e. let same : ◌≡◌ {A = ℕ} k p = e in omega (arith, later, same))
-    ∙ above k (omega (arith, later)))
+-- After a partition was taken the session has none above in hand.
+pub took-above : (p : ℕ) (a b : Account) (taken : Content) → b ≡ account_taking a p taken → IsAboveHand a p → IsAboveHand b (p + 1)
+took-above p a b taken is above =
+    subst (λ (c : Account). IsAboveHand c (p + 1)) (sym is)
+    (λ k later. set_at-else a.hand p (Some (fresh_hand taken)) k (λ e. let same : ◌≡◌ {A = ℕ} k p = e in omega (arith, later, same)) ∙ above k (omega (arith, later)))
 
 -- One partition more: it was taken, the others after it, and it was put back as it was.
-module _ {T : Type 0} (content : T → Content) (limit p : ℕ) (before mid : View T) (has : HasSession before) (part : T) (took : mid ≡ noting before (TookPart p part)) where
-  abbrev taken : Content
-  taken = content part
-
-  mid-further : IsFurther before mid
-  mid-further = subst (IsFurther before) (sym took) (noting-further before (TookPart p part) (λ before. refl) (λ number lists. refl) (λ owed i. owed) has)
-
-  pub mid-account : first_account content mid.sessions ≡ account_taking (first_account content before.sessions) p taken
-  mid-account = ap (λ (v : View T). first_account content v.sessions) took ∙ account-noting content before (TookPart p part) has
-
 module _ {T : Type 0} (content : T → Content) (groups limit p : ℕ) (before mid later after : View T) (old new most : List TableRow) (first result : Result (Unit {0}) NoMemory) (fast : ℕ)
-    (has : HasSession before) (part : T) (took : mid ≡ noting before (TookPart p part)) (counts : CountsFrom content groups (p + 1) limit mid old first fast later new)
+    (has : HasSession before) (part : T) (mid_further : IsFurther before mid)
+    (mid_account : first_account content mid.sessions ≡ account_taking (first_account content before.sessions) p (content part)) (counts : CountsFrom content groups (p + 1) limit mid old first fast later new)
     (put : IsFurther later after)
     (last-account : first_account content after.sessions
     ≡ account_putting (first_account content later.sessions) p (taken_of ((first_account content later.sessions).hand p)) (content part) Keep)
@@ -301,21 +284,19 @@ module _ {T : Type 0} (content : T → Content) (groups limit p : ℕ) (before m
     of_partitions = (record { holds = knows.holds_of_it; waits = knows.waits_of_it }, counts.of_partitions);
     word = counts.word;
     further =
-        further-then before mid after (mid-further content limit p before mid has part took)
+        further-then before mid after mid_further
         (further-then mid later after counts.further put);
     account =
         kept-since (first_account content before.sessions) (first_account content mid.sessions) (first_account content later.sessions) (first_account content after.sessions) p (content part)
-        (holding_steps (p + 1) counts.contents (all_slot_loads limit groups counts.word)) none (mid-account content limit p before mid has part took) counts.account last-account;
+        (holding_steps (p + 1) counts.contents (all_slot_loads limit groups counts.word)) none mid_account counts.account last-account;
     fast_ = counts.fast_;
     rows = rows;
     finds = λ issued are all in_hand is.
-        let taken_further = mid-further content limit p before mid has part took in
-        let taken_account = mid-account content limit p before mid has part took in
         let zeroth : p ≡ p + 0 = omega arith in
         let here : all p ≡ content part = ap all zeroth ∙ is 0 (omega arith) in
-        finds-before content groups issued limit p before mid has taken_further (content part) taken_account all counts.word
-        (counts.finds issued (further-all before mid issued has taken_further are) all
-        (in_hand-more content groups issued limit p before mid has taken_further (content part) taken_account all counts.word in_hand here)
+        finds-before content groups issued limit p before mid has mid_further (content part) mid_account all counts.word
+        (counts.finds issued (further-all before mid issued has mid_further are) all
+        (in_hand-more content groups issued limit p before mid has mid_further (content part) mid_account all counts.word in_hand here)
         (λ k below.
         let next : p + 1 + k ≡ p + suc k = omega arith in
         ap all next ∙ is (suc k) (omega (arith, below))));

@@ -40,7 +40,7 @@ use Rattle.lock_table.proofs.Lemmas.Put.{set_at-else}
 use Rattle.shared_rule.specs.Marks.{Asked, SawListLocked, SawHeld, CalledWaiter, CalledSleeper, ParksWaiting, ParksAsleep}
 use Rattle.shared_rule.specs.History as history
 use Rattle.shared_rule.specs.Owed.{owed_noted, owed_told}
-use Rattle.shared_rule.specs.Todos.{Todo, no_content, todo_noted, flagged_noted, todo_told_by, flagged_told_by}
+use Rattle.shared_rule.specs.Todos.{Todo, without_lost, no_content, todo_noted, flagged_noted, todo_told_by, flagged_told_by}
 use Rattle.shared_rule.proofs.Lemmas.Idle.{told-lists}
 use Rattle.shared_rule.proofs.Lemmas.Calls.{step-owed, call-owed, asked-word}
 use Rattle.shared_rule.proofs.Lemmas.Turns.{events-push, events-look}
@@ -84,9 +84,9 @@ pub data IsSeen {T : Type 0} (w : World) (number : ℕ) (todo : Todo) (owed : Li
   calls_one_waiting : (other : ℕ) → mark ≡ CalledWaiter other → IsSeen w number todo owed mark
   calls_one_asleep : (other : ℕ) → mark ≡ CalledSleeper other → IsSeen w number todo owed mark
   parks_on_wait : (shown : ℕ) → mark ≡ ParksWaiting shown → shown ≡ w.words.wait number
-      → ((b : Beside) → todo ≡ todo_of b number → OwesAsTold b number owed → HasNothingToDo w b.duties b.waits b.sleeps number) → IsSeen w number todo owed mark
+      → ((b : Beside) → without_lost todo ≡ todo_of b number → OwesAsTold b number owed → HasNothingToDo w b.duties b.waits b.sleeps number) → IsSeen w number todo owed mark
   parks_on_sleep : (shown : ℕ) → mark ≡ ParksAsleep shown → shown ≡ w.words.sleep number
-      → ((b : Beside) → todo ≡ todo_of b number → OwesAsTold b number owed → MaySleep w b.duties b.waits b.sleeps number) → IsSeen w number todo owed mark
+      → ((b : Beside) → without_lost todo ≡ todo_of b number → OwesAsTold b number owed → MaySleep w b.duties b.waits b.sleeps number) → IsSeen w number todo owed mark
 
 module _ {T : Type 0} (content : T → Content) (begun : T → Option Request) (sizes : TableSizes) (s : State (Kept T) (View T)) (r : Ruled content begun sizes s)
     (id : ℕ) (view : View T) (x : History T) (others : List (History T)) (at : get_elem? s.views id ≡ some view) (is : view.sessions ≡ x ∷ others) where
@@ -150,7 +150,7 @@ module _ {T : Type 0} (content : T → Content) (begun : T → Option Request) (
               (events-push r.wakes.turns event ∙ ap (λ events. events ++ event ∷ []) r.wakes.events_)
               (λ i. eq-eqb x.number x.number refl i && not (tells-no_seats x.number mark noted.step noted.tells i)) noted.tells
               (λ k other. another's k event other)
-              (ap (λ lists. todo_noted x.number lists (todo_told_by x.number x.marks) mark) (sym (told-lists content x.number x.marks)) ∙ noted.keeps.todo_ r.wakes.beside own_todo)
+              (ap (λ lists. without_lost (todo_noted x.number lists (todo_told_by x.number x.marks) mark)) (sym (told-lists content x.number x.marks)) ∙ noted.keeps.todo_ r.wakes.beside own_todo)
               (noted.keeps.flagged_ r.wakes.beside own_flagged)
               (step-owed r.world r.wakes.beside x.number (owed_told x.marks) (r.wakes.owed x stood) mark noted.step noted.tells asked)
               (λ k other. todo-others r.world r.wakes.beside x.number k other noted.step) (λ k other. flagged-others r.world r.wakes.beside.duties x.number k other noted.step)
@@ -160,7 +160,7 @@ module _ {T : Type 0} (content : T → Content) (begun : T → Option Request) (
         stood : StandsAtSeat s.views x
         stood = record { seat = id; place = 0; view = view; there = at; stands = ap (λ sessions. slice_get sessions 0) is }
 
-        own_todo : todo_told_by x.number x.marks ≡ todo_of r.wakes.beside x.number
+        own_todo : without_lost (todo_told_by x.number x.marks) ≡ todo_of r.wakes.beside x.number
         own_todo = r.wakes.todo x stood
 
         own_flagged : flagged_told_by x.marks ≡ r.wakes.beside.duties.flagged x.number
@@ -197,7 +197,7 @@ module _ {T : Type 0} (content : T → Content) (begun : T → Option Request) (
   stands_there : StandsAtSeat s.views x
   stands_there = record { seat = id; place = 0; view = view; there = at; stands = ap (λ sessions. slice_get sessions 0) is }
 
-  todo-there : todo_told_by x.number x.marks ≡ todo_of r.wakes.beside x.number
+  todo-there : without_lost (todo_told_by x.number x.marks) ≡ todo_of r.wakes.beside x.number
   todo-there = r.wakes.todo x stands_there
 
   flagged-there : flagged_told_by x.marks ≡ r.wakes.beside.duties.flagged x.number
@@ -209,7 +209,7 @@ module _ {T : Type 0} (content : T → Content) (begun : T → Option Request) (
   -- A look is a turn of the run, and no event.
   wakes-looked : (mark : Mark T) → LooksOnly mark → (turn : Turn) → Keeps r.world r.wakes.beside turn r.world → IsInOrder r.world turn → events_of (turn ∷ []) ≡ []
       → is_turn_of x.number turn ≡ true → TellsTurn x.number mark turn → ((k : ℕ) → k ≢ x.number → is_turn_of k turn ≡ false)
-      → todo_told_by x.number (mark ∷ x.marks) ≡ todo_of (beside_after r.world r.wakes.beside turn) x.number
+      → without_lost (todo_told_by x.number (mark ∷ x.marks)) ≡ todo_of (beside_after r.world r.wakes.beside turn) x.number
       → flagged_told_by (mark ∷ x.marks) ≡ (beside_after r.world r.wakes.beside turn).duties.flagged x.number
       → OwesAsTold (beside_after r.world r.wakes.beside turn) x.number (owed_told (mark ∷ x.marks))
       → ((k : ℕ) → k ≢ x.number → todo_of (beside_after r.world r.wakes.beside turn) k ≡ todo_of r.wakes.beside k)
@@ -225,7 +225,7 @@ module _ {T : Type 0} (content : T → Content) (begun : T → Option Request) (
   wakes-seen mark (sees_list_locked lock same locked none) =
       wakes-looked mark (at_list lock same) (saw_list_locked x.number lock)
       (locked, subst (λ (t : Todo). NoneOr t.due lock) todo-there none, refl) tt refl (eq-eqb x.number x.number refl) same (λ k other. ne_eqb x.number k (λ e. other (sym e)))
-      (ap (λ m. todo_noted x.number (told no_content x.number x.marks).lists (todo_told_by x.number x.marks) m) same
+      (ap (λ m. without_lost (todo_noted x.number (told no_content x.number x.marks).lists (todo_told_by x.number x.marks) m)) same
       ∙ due-here r.wakes.beside.duties (r.wakes.beside.sleeps.owed x.number) x.number (todo_told_by x.number x.marks) todo-there None)
       (ap (flagged_noted (flagged_told_by x.marks)) same ∙ flagged-there)
       (subst (λ m. OwesAsTold r.wakes.beside x.number (owed_noted (owed_told x.marks) m)) (sym same) owed-there)
@@ -233,7 +233,7 @@ module _ {T : Type 0} (content : T → Content) (begun : T → Option Request) (
   wakes-seen mark (sees_held lock shown same held none) =
       wakes-looked mark (at_lock lock shown same) (saw_held x.number lock)
       (held, subst (λ (t : Todo). NoneOr t.tries lock) todo-there none, refl) tt refl (eq-eqb x.number x.number refl) (shown, same) (λ k other. ne_eqb x.number k (λ e. other (sym e)))
-      (ap (λ m. todo_noted x.number (told no_content x.number x.marks).lists (todo_told_by x.number x.marks) m) same
+      (ap (λ m. without_lost (todo_noted x.number (told no_content x.number x.marks).lists (todo_told_by x.number x.marks) m)) same
       ∙ tries-here r.wakes.beside.duties (r.wakes.beside.sleeps.owed x.number) x.number (todo_told_by x.number x.marks) todo-there None)
       (ap (flagged_noted (flagged_told_by x.marks)) same ∙ flagged-there)
       (subst (λ m. OwesAsTold r.wakes.beside x.number (owed_noted (owed_told x.marks) m)) (sym same) owed-there)
@@ -241,7 +241,7 @@ module _ {T : Type 0} (content : T → Content) (begun : T → Option Request) (
   wakes-seen mark (calls_one_waiting o same) =
       wakes-looked mark (calls_waiter o same) (called_waiter x.number o)
       refl tt refl (eq-eqb x.number x.number refl) same (λ k other. ne_eqb x.number k (λ e. other (sym e)))
-      (ap (λ m. todo_noted x.number (told no_content x.number x.marks).lists (todo_told_by x.number x.marks) m) same ∙ todo-there)
+      (ap (λ m. without_lost (todo_noted x.number (told no_content x.number x.marks).lists (todo_told_by x.number x.marks) m)) same ∙ todo-there)
       (ap (flagged_noted (flagged_told_by x.marks)) same ∙ flagged-there)
       (subst (λ m. OwesAsTold (beside_after r.world r.wakes.beside (called_waiter x.number o)) x.number (owed_noted (owed_told x.marks) m)) (sym same)
       (call-owed r.world r.wakes.beside x.number (owed_told x.marks) owed-there o))
@@ -249,7 +249,7 @@ module _ {T : Type 0} (content : T → Content) (begun : T → Option Request) (
   wakes-seen mark (calls_one_asleep o same) =
       wakes-looked mark (calls_sleeper o same) (called_sleeper x.number o)
       refl tt refl (eq-eqb x.number x.number refl) same (λ k other. ne_eqb x.number k (λ e. other (sym e)))
-      (ap (λ m. todo_noted x.number (told no_content x.number x.marks).lists (todo_told_by x.number x.marks) m) same
+      (ap (λ m. without_lost (todo_noted x.number (told no_content x.number x.marks).lists (todo_told_by x.number x.marks) m)) same
       ∙ calls-here r.wakes.beside x.number (todo_told_by x.number x.marks) todo-there o false)
       (ap (flagged_noted (flagged_told_by x.marks)) same ∙ flagged-there)
       (subst (λ m. OwesAsTold r.wakes.beside x.number (owed_noted (owed_told x.marks) m)) (sym same) owed-there)
@@ -258,14 +258,14 @@ module _ {T : Type 0} (content : T → Content) (begun : T → Option Request) (
   wakes-seen mark (parks_on_wait shown same is may) =
       wakes-looked mark (at_wait shown same) (parks_waiting x.number shown)
       (is, may r.wakes.beside todo-there owed-there, refl) tt refl (eq-eqb x.number x.number refl) same (λ k other. ne_eqb x.number k (λ e. other (sym e)))
-      (ap (λ m. todo_noted x.number (told no_content x.number x.marks).lists (todo_told_by x.number x.marks) m) same ∙ todo-there)
+      (ap (λ m. without_lost (todo_noted x.number (told no_content x.number x.marks).lists (todo_told_by x.number x.marks) m)) same ∙ todo-there)
       (ap (flagged_noted (flagged_told_by x.marks)) same ∙ flagged-there)
       (subst (λ m. OwesAsTold r.wakes.beside x.number (owed_noted (owed_told x.marks) m)) (sym same) owed-there)
       (λ k other. refl) (λ k other. refl) (λ k other. refl)
   wakes-seen mark (parks_on_sleep shown same is may) =
       wakes-looked mark (at_sleep shown same) (parks_asleep x.number shown)
       (is, may r.wakes.beside todo-there owed-there, refl) tt refl (eq-eqb x.number x.number refl) same (λ k other. ne_eqb x.number k (λ e. other (sym e)))
-      (ap (λ m. todo_noted x.number (told no_content x.number x.marks).lists (todo_told_by x.number x.marks) m) same ∙ todo-there)
+      (ap (λ m. without_lost (todo_noted x.number (told no_content x.number x.marks).lists (todo_told_by x.number x.marks) m)) same ∙ todo-there)
       (ap (flagged_noted (flagged_told_by x.marks)) same ∙ flagged-there)
       (subst (λ m. OwesAsTold r.wakes.beside x.number (owed_noted (owed_told x.marks) m)) (sym same) owed-there)
       (λ k other. refl) (λ k other. refl) (λ k other. refl)

@@ -20,7 +20,7 @@ use Rattle.shared_rule.specs.Audits.{IsFurther}
 use Rattle.shared_rule.specs.Plays.{side_of, Side, account_at, number_at, quiet_at, todo_at, owed_at, HasSession, IsSameSeat}
 use Rattle.shared_rule.specs.Quiet.{Quiet, first_quiet, quiet_noted}
 use Rattle.shared_rule.specs.Owed.{first_owed, owed_noted}
-use Rattle.shared_rule.specs.Todos.{Todo, first_todo, todo_noted, todo_looked, todo_leaving, todo_told, todo_setting_ok, is_off_list_in_hand}
+use Rattle.shared_rule.specs.Todos.{Todo, nothing_to_do, first_todo, todo_noted, todo_looked, todo_leaving, todo_told, todo_setting_ok, is_off_list_in_hand}
 use Rattle.shared_rule.proofs.Lemmas.Idle.{lists-told}
 use Rattle.shared_rule.proofs.Lemmas.Taken.{lone-noted, number-noted, session-noted, account-noted, quiet-noted, todo-noted, owed-noted}
 
@@ -157,18 +157,22 @@ none-owed number lists todo lock none =
 pub owes-none : {P : Type 0} (todo : Todo) (lock : ℕ) → todo.owes_release_ok ≡ None → todo.owes_release_ok ≡ Some lock → P
 owes-none todo lock none owes = let never : ◌≡◌ {A = Option ℕ} None (Some lock) = sym none ∙ owes in absurd (cc (never))
 
--- A call that leaves as much to do goes on at the same seat.
-pub led-further : {T : Type 0} (content : T → Content) (before after : Seat (Kept T) (PlacedView T)) (a : Account) → Led content before after a → IsFurther (side_of before).0 (side_of after).0
-led-further content before after a led = record {
+-- A call that leaves nothing to do where there was nothing goes on at the same seat.
+pub led-further_by : {T : Type 0} (content : T → Content) (before after : Seat (Kept T) (PlacedView T)) (a : Account) (todo : Todo) → LedTo content before after a todo
+    → (todo_at before ≡ nothing_to_do → todo ≡ nothing_to_do) → IsFurther (side_of before).0 (side_of after).0
+led-further_by content before after a todo led free = record {
   next = led.others.next;
   closed = led.others.closed;
   behind = led.others.behind;
   number = led.number;
   quiet = led.quiet;
   some = led.session;
-  free = λ was. led.todo ∙ was;
+  free = λ was. led.todo ∙ free was;
   owed = led.owed;
 }
+
+pub led-further : {T : Type 0} (content : T → Content) (before after : Seat (Kept T) (PlacedView T)) (a : Account) → Led content before after a → IsFurther (side_of before).0 (side_of after).0
+led-further content before after a led = led-further_by content before after a (todo_at before) led (λ was. was)
 
 -- A step whose mark is that of the number which it found.
 pub led-marked :

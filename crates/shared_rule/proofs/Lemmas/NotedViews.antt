@@ -20,7 +20,7 @@ use Rattle.shared_rule.specs.Tells.{Tells, AreTold, LooksOnly, TellsTurn, AreTur
 use Rattle.lock_world.specs.Wakes.{Beside, nothing_beside, Turn, KeepsInOrder, beside_after}
 use Rattle.lock_world.proofs.Lemmas.Wakes.Runs.{run-push}
 use Rattle.shared_rule.specs.Owed.{owed_told}
-use Rattle.shared_rule.specs.Todos.{todo_told_by, flagged_told_by}
+use Rattle.shared_rule.specs.Todos.{without_lost, todo_told_by, flagged_told_by}
 use Rattle.shared_rule.proofs.Lemmas.Turns.{turns-beside, turns-push}
 use Rattle.shared_rule.specs.Ruled.{todo_of, OwesAsTold, TurnsAreTold, StandsAtSeat, WakesAreKept, IsClosed, HistoryIsShown, IsBehind, SeatsAreShown, StandsClosed, HasSeat, HasOpener, StepsAreTold, HasClosedSo}
 use Rattle.shared_rule.proofs.Lemmas.Told.{another's, told-push, steps-beside, set-back, set-among, set-seat, seat-here, set-opener, opener-here, closed_so-push}
@@ -274,7 +274,7 @@ module _ {T : Type 0} (content : T → Content) (w v : World) (views : List (Vie
   module _ (sizes : TableSizes) (events later : List Event) (kept : WakesAreKept sizes views events w) (turn : Turn) (keeps : KeepsInOrder w kept.beside turn v)
       (its_events : events_of (kept.turns ++ turn ∷ []) ≡ later) (own_turn : is_turn_of x.number turn ≡ true) (tells : TellsTurn x.number mark turn)
       (other_turn : (k : ℕ) → k ≢ x.number → is_turn_of k turn ≡ false)
-      (own_todo : todo_told_by x.number (mark ∷ x.marks) ≡ todo_of (beside_after w kept.beside turn) x.number)
+      (own_todo : without_lost (todo_told_by x.number (mark ∷ x.marks)) ≡ todo_of (beside_after w kept.beside turn) x.number)
       (own_flagged : flagged_told_by (mark ∷ x.marks) ≡ (beside_after w kept.beside turn).duties.flagged x.number)
       (own_owed : OwesAsTold (beside_after w kept.beside turn) x.number (owed_told (mark ∷ x.marks)))
       (todo_same : (k : ℕ) → k ≢ x.number → todo_of (beside_after w kept.beside turn) k ≡ todo_of kept.beside k)
@@ -319,7 +319,7 @@ module _ {T : Type 0} (content : T → Content) (w v : World) (views : List (Vie
       run = (kept.run.0, run-push KeepsInOrder (opening sizes.sessions sizes.groups) w v nothing_beside kept.beside kept.turns turn kept.run.1 keeps);
       events_ = its_events;
       told = turns-then;
-      todo = each-noted (λ y. todo_told_by y.number y.marks ≡ todo_of kept.beside y.number) (λ y. todo_told_by y.number y.marks ≡ todo_of beside_next y.number) own_todo
+      todo = each-noted (λ y. without_lost (todo_told_by y.number y.marks) ≡ todo_of kept.beside y.number) (λ y. without_lost (todo_told_by y.number y.marks) ≡ todo_of beside_next y.number) own_todo
           (λ y other was. was ∙ sym (todo_same y.number other)) kept.todo;
       flagged = each-noted (λ y. flagged_told_by y.marks ≡ kept.beside.duties.flagged y.number) (λ y. flagged_told_by y.marks ≡ beside_next.duties.flagged y.number) own_flagged
           (λ y other was. was ∙ sym (flagged_same y.number other)) kept.flagged;

@@ -20,7 +20,7 @@ use Rattle.shared_rule.specs.declared.lw_locks.LwLock.{LwLock}
 use Rattle.shared_rule.specs.declared.lw_locks.LwLock.TheVariants.{OfPart, OfSlots}
 use Rattle.shared_rule.specs.LwLocks.{word_of_lock, lock_number}
 use Rattle.shared_rule.specs.Ruled.{todo_of, todo_with, OwesAsTold}
-use Rattle.shared_rule.specs.Todos.{Todo, nothing_to_do, todo_leaving, todo_told, todo_setting_ok, is_off_list_in_hand, lock_of_list, HasBy, IsLeftWellBy, nobody_waits, took_off, still_has, tries_next, TellsNobodyBy}
+use Rattle.shared_rule.specs.Todos.{Todo, nothing_to_do, without_lost, todo_leaving, todo_told, todo_setting_ok, is_off_list_in_hand, lock_of_list, HasBy, IsLeftWellBy, nobody_waits, took_off, still_has, tries_next, TellsNobodyBy}
 use Rattle.shared_rule.proofs.Lemmas.StepsOwed.{KeepsOwed, owes-here, both-here}
 
 -- What the account has of lists and locks is so in the World.
@@ -41,20 +41,20 @@ module _ (w : World) (number : ℕ) (a : Account) (todo : Todo) (flagged : Bool)
   lists_are : a.lists ≡ (account w number).lists
   lists_are = ap (λ (b : Account). b.lists) shows
 
-  setting-is : (x : Duties) (row : ℕ → Bool) (lock : ℕ) → todo ≡ todo_with x row number → todo_setting_ok number a.lists todo lock ≡ todo_with (after_setting_ok w x number lock) row number
-  setting-is x row lock is = (λ i. todo_setting_ok number (lists_are i) todo lock) ∙ elim (cases_Bool owed) [
-    | inr free ↦ cond-false owed (if not (is_some (w.sessions.stands number)) then todo_told todo lock else (if off then todo_leaving todo else todo)) todo free
+  setting-is : (x : Duties) (row : ℕ → Bool) (lock : ℕ) → without_lost todo ≡ todo_with x row number → without_lost (todo_setting_ok number a.lists todo lock) ≡ todo_with (after_setting_ok w x number lock) row number
+  setting-is x row lock is = (λ i. without_lost (todo_setting_ok number (lists_are i) todo lock)) ∙ elim (cases_Bool owed) [
+    | inr free ↦ ap without_lost (cond-false owed (if not (is_some (w.sessions.stands number)) then todo_told todo lock else (if off then todo_leaving todo else todo)) todo free)
         ∙ is ∙ ap at (sym (cond-false (is_lock (x.owes_release_ok number) lock) (ok_set_as_owed w x number lock) x (sym same ∙ free)))
-    | inl owes ↦ cond-true owed (if not (is_some (w.sessions.stands number)) then todo_told todo lock else (if off then todo_leaving todo else todo)) todo owes
+    | inl owes ↦ ap without_lost (cond-true owed (if not (is_some (w.sessions.stands number)) then todo_told todo lock else (if off then todo_leaving todo else todo)) todo owes)
         ∙ elim (cases_Bool (not (is_some (w.sessions.stands number)))) [
-          | inl told ↦ cond-true (not (is_some (w.sessions.stands number))) (todo_told todo lock) (if off then todo_leaving todo else todo) told
+          | inl told ↦ ap without_lost (cond-true (not (is_some (w.sessions.stands number))) (todo_told todo lock) (if off then todo_leaving todo else todo) told)
               ∙ both-here x row number todo is (Some lock) None
               ∙ ap at (sym (cond-true (not (is_some (w.sessions.stands number))) (ok_set_by_told x number lock) (ok_set_before_told w x number lock) told))
-          | inr stands ↦ cond-false (not (is_some (w.sessions.stands number))) (todo_told todo lock) (if off then todo_leaving todo else todo) stands
+          | inr stands ↦ ap without_lost (cond-false (not (is_some (w.sessions.stands number))) (todo_told todo lock) (if off then todo_leaving todo else todo) stands)
               ∙ elim (cases_Bool off) [
-                | inl won ↦ cond-true off (todo_leaving todo) todo won ∙ owes-here x row number todo is None
+                | inl won ↦ ap without_lost (cond-true off (todo_leaving todo) todo won) ∙ owes-here x row number todo is None
                     ∙ ap at (sym (cond-true won_ (ok_set_by_winner x number) x (sym its ∙ won)))
-                | inr lost ↦ cond-false off (todo_leaving todo) todo lost ∙ is
+                | inr lost ↦ ap without_lost (cond-false off (todo_leaving todo) todo lost) ∙ is
                     ∙ ap at (sym (cond-false won_ (ok_set_by_winner x number) x (sym its ∙ lost)))
               ]
               ∙ ap at (sym (cond-false (not (is_some (w.sessions.stands number))) (ok_set_by_told x number lock) (ok_set_before_told w x number lock) stands))
@@ -157,7 +157,7 @@ module _ (w : World) (number : ℕ) (a : Account) (shows : a ≡ account w numbe
   pub tells-told : TellsNobodyBy a → TellsNobody w.sessions.off number
   tells-told nobody other = ap (λ (b : Account). b.lists.off other) (sym shows) ∙ nobody other
 
-  left-well : (x : Duties) (row : ℕ → Bool) (todo : Todo) (l : LwLock) (waiters : List LwWaiter) → todo ≡ todo_with x row number → w.words.list (lock_number l) ≡ waiters → IsLeftWellBy a todo l waiters
+  left-well : (x : Duties) (row : ℕ → Bool) (todo : Todo) (l : LwLock) (waiters : List LwWaiter) → without_lost todo ≡ todo_with x row number → w.words.list (lock_number l) ≡ waiters → IsLeftWellBy a todo l waiters
       → IsLeftWell (waking w x) (lock_number l) number
   left-well x row todo l waiters is list (nobody_waits none) = waking_of.nobody_waits (list ∙ none)
   left-well x row todo l waiters is list (took_off other off) = waking_of.took_off other (off-told other off)

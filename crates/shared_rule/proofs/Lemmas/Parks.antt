@@ -1,4 +1,4 @@
-use Rattle.std.proofs.Common.{◌≡◌, ◌≢◌, ℕ, ◌<◌, arith, false, true, List, [], ◌∷◌, Option, Some, None, refl, sym, ap, ◌∙◌, subst, inl, inr}
+use Rattle.std.proofs.Common.{◌≡◌, ℕ, ◌<◌, arith, false, List, [], ◌∷◌, Option, Some, None, refl, sym, ap, ◌∙◌, subst, inl, inr}
 use Rattle.std.proofs.lemmas.Bool.{cases_Bool, false≢true}
 use Rattle.lw_word.specs.declared.wait_lists.LwWaiter.{LwWaiter}
 use Rattle.lock_world.specs.World.{World}
@@ -6,7 +6,7 @@ use Rattle.lock_world.specs.SafeWorld.{SafeWorld}
 use Rattle.lock_world.specs.Account.{Account, account, list_in_hand}
 use Rattle.lock_world.specs.Wakes.{Beside}
 use Rattle.lock_world.specs.Wakes.Waking.{rank}
-use Rattle.lock_world.specs.Wakes.Owing.{HasIn, HasNothingToDo, MaySleep}
+use Rattle.lock_world.specs.Wakes.Owing.{HasNothingToDo, MaySleep}
 use Rattle.atomic_table.specs.declared.shared.Seat.{Seat}
 use Rattle.lock_table.specs.Content.{Content}
 use Rattle.shared_rule.specs.declared.history.History.{History}
@@ -16,12 +16,12 @@ use Rattle.shared_rule.specs.declared.kept.Kept.{Kept}
 use Rattle.shared_rule.specs.Boards.{first_marks}
 use Rattle.shared_rule.specs.History.{told, noting, noting_first, first_account}
 use Rattle.shared_rule.specs.Owed.{owed_told, first_owed}
-use Rattle.shared_rule.specs.Plays.{side_of, Side, account_at, number_at, todo_at, owed_at, HasSession}
+use Rattle.shared_rule.specs.Plays.{side_of, Side, account_at, todo_at, owed_at, HasSession}
 use Rattle.shared_rule.specs.Led.{Led}
 use Rattle.shared_rule.specs.LwLocks.{lock_number}
 use Rattle.shared_rule.specs.Parks.{HasNothingLeft}
 use Rattle.shared_rule.specs.Ruled.{todo_of, OwesAsTold}
-use Rattle.shared_rule.specs.Todos.{Todo, MaySleepBy, todo_told_by, first_todo}
+use Rattle.shared_rule.specs.Todos.{Todo, without_lost, MaySleepBy, todo_told_by, first_todo}
 use Rattle.shared_rule.proofs.Lemmas.Orders.{earlier-than, no-lock-by}
 use Rattle.shared_rule.proofs.Lemmas.Owings.{tells-told}
 
@@ -38,20 +38,20 @@ no-hand None list none = refl
 no-hand (Some lock) list none = absurd (cc (none))
 
 module _ (w : World) (k : ℕ) (a : Account) (shows : a ≡ account w k) (safe : SafeWorld w) (unshared : (q : ℕ) → a.shares q ≡ false)
-    (b : Beside) (todo : Todo) (owed : List ℕ) (is : todo ≡ todo_of b k) (owes : OwesAsTold b k owed) where
+    (b : Beside) (todo : Todo) (owed : List ℕ) (is : without_lost todo ≡ todo_of b k) (owes : OwesAsTold b k owed) where
   no-list : a.lists.in_hand ≡ None → w.sessions.has_list k ≡ None
   no-list none = no-hand (w.sessions.has_list k) w.words.list (sym (ap (λ (c : Account). c.lists.in_hand) shows) ∙ none)
 
   pub nothing-left_to_do : HasNothingLeft a todo owed → HasNothingToDo w b.duties b.waits b.sleeps k
   nothing-left_to_do left = record {
     no_lock = no-lock-by w k a shows safe unshared left.no_lock;
-    no_look = ap (λ (t : Todo). t.due) (sym is ∙ left.free);
-    no_try = ap (λ (t : Todo). t.tries) (sym is ∙ left.free);
-    no_ok = ap (λ (t : Todo). t.owes_release_ok) (sym is ∙ left.free);
+    no_look = ap (λ (t : Todo). t.due) (sym is ∙ ap without_lost left.free);
+    no_try = ap (λ (t : Todo). t.tries) (sym is ∙ ap without_lost left.free);
+    no_ok = ap (λ (t : Todo). t.owes_release_ok) (sym is ∙ ap without_lost left.free);
     no_list = no-list (ap (λ lists. lists.in_hand) left.no_lists_);
     tells_nobody = tells-told w k a shows safe (λ other. ap (λ lists. lists.off other) left.no_lists_);
     calls_no_waiter = none-owed b k owed left.wakes_nobody owes;
-    calls_no_sleeper = λ other. ap (λ (t : Todo). t.calls other) (sym is ∙ left.free);
+    calls_no_sleeper = λ other. ap (λ (t : Todo). t.calls other) (sym is ∙ ap without_lost left.free);
   }
 
   not-own : (n : ℕ) → n < n → ⊥

@@ -51,7 +51,7 @@ module _ {T : Type 0} (content : T → Content) (before locked : Seat (Kept T) (
       let three = led_to-then content before joined after
       (account_joining_list (account_locking_list a lock waiters) (list_here (account_locking_list a lock waiters).lists.in_hand) waiter) (todo_queueing (todo_at before) (Some lock)) account_unlocking_list (λ todo. todo) two unlocks in
       let four = led_to-as content before after (todo_queueing (todo_at before) (Some lock)) _ _ three (ap (λ (lists : ListAccount). record a { lists = record { in_hand = None; stands = Some lock; off = lists.off } }) idle) in
-      led_by-todo content before after _ _ (todo_queueing (todo_at before) (Some lock)) (todo_in_list lock) four (λ i. record { due = tries.no_look i; tries = Some lock; owes_release_ok = Some lock; calls = tries.calls_nobody i })
+      led_by-todo content before after _ _ (todo_queueing (todo_at before) (Some lock)) (todo_in_list lock) four (λ i. record { due = tries.no_look i; tries = Some lock; owes_release_ok = Some lock; calls = tries.calls_nobody i; lost = 0 })
 
   -- Leaving: it is locked, left and unlocked,
   pub dequeued :

@@ -22,27 +22,27 @@ use Rattle.lock_world.specs.Wakes.Owing.{Duties, lock_of, is_lock, look_due, aft
 use Rattle.lock_world.specs.Wakes.{Beside, happened, beside_after}
 use Rattle.lock_world.proofs.Lemmas.Wakes.Live.{step-alone}
 use Rattle.shared_rule.specs.Ruled.{todo_of, todo_with}
-use Rattle.shared_rule.specs.Todos.{Todo, todo_attempted, todo_looked, todo_putting, todo_queueing, todo_leaving}
+use Rattle.shared_rule.specs.Todos.{Todo, without_lost, todo_attempted, todo_looked, todo_putting, todo_queueing, todo_leaving}
 
 -- What a session's step asks, from what the session has to do and knows; and what its step makes of that.
 
 -- A step keeps to what is owed: the session, with this to do, may make it, and has that to do then.
 pub record KeepsOwed (w : World) (number : ℕ) (todo : Todo) (flagged : Bool) (next : Todo) (next_flagged : Bool) (step : Step) : Type 0 where
-  pub asks : (b : Beside) → todo ≡ todo_of b number → flagged ≡ b.duties.flagged number → Asks w b.duties b.waits b.sleeps number step
-  pub todo_ : (b : Beside) → todo ≡ todo_of b number → next ≡ todo_of (beside_after w b (happened (record { session = number; step = step }))) number
+  pub asks : (b : Beside) → without_lost todo ≡ todo_of b number → flagged ≡ b.duties.flagged number → Asks w b.duties b.waits b.sleeps number step
+  pub todo_ : (b : Beside) → without_lost todo ≡ todo_of b number → without_lost next ≡ todo_of (beside_after w b (happened (record { session = number; step = step }))) number
   pub flagged_ : (b : Beside) → flagged ≡ b.duties.flagged number → next_flagged ≡ (duties_after w b.duties number step).flagged number
   pub in_order : AsksInOrder w number step
 
 -- What all others have to do stays, after a step and after a look.
 pub todo-others : (w : World) (b : Beside) (s k : ℕ) (other : k ≢ s) (step : Step) → todo_of (beside_after w b (happened (record { session = s; step = step }))) k ≡ todo_of b k
 todo-others w b s k other step =
-    let alone = step-alone w b s k other step in λ i. record { due = alone.0 i; tries = alone.1 i; owes_release_ok = alone.2 i; calls = alone.4 i }
+    let alone = step-alone w b s k other step in λ i. record { due = alone.0 i; tries = alone.1 i; owes_release_ok = alone.2 i; calls = alone.4 i; lost = 0 }
 
 pub due-others : (x : Duties) (calls : ℕ → Bool) (s k : ℕ) (other : k ≢ s) (its : Option ℕ) → todo_with (record x { due = set_at x.due s its }) calls k ≡ todo_with x calls k
-due-others x calls s k other its = λ i. record { due = set_at-else x.due s its k other i; tries = x.tries k; owes_release_ok = x.owes_release_ok k; calls = calls }
+due-others x calls s k other its = λ i. record { due = set_at-else x.due s its k other i; tries = x.tries k; owes_release_ok = x.owes_release_ok k; calls = calls; lost = 0 }
 
 pub tries-others : (x : Duties) (calls : ℕ → Bool) (s k : ℕ) (other : k ≢ s) (its : Option ℕ) → todo_with (record x { tries = set_at x.tries s its }) calls k ≡ todo_with x calls k
-tries-others x calls s k other its = λ i. record { due = x.due k; tries = set_at-else x.tries s its k other i; owes_release_ok = x.owes_release_ok k; calls = calls }
+tries-others x calls s k other its = λ i. record { due = x.due k; tries = set_at-else x.tries s its k other i; owes_release_ok = x.owes_release_ok k; calls = calls; lost = 0 }
 
 module _ (w : World) (x : Duties) (s k : ℕ) (other : k ≢ s) where
   setting-flags : (lock : ℕ) → (after_setting_ok w x s lock).flagged ≡ x.flagged
@@ -94,48 +94,53 @@ module _ (w : World) (x : Duties) (s k : ℕ) (other : k ≢ s) where
   flagged-others (SetHasWaiters word n) = set_at-else x.flagged s true k other
 
 -- Attempts, puts and looks, by the part of the duties that each changes.
-module _ (x : Duties) (row : ℕ → Bool) (number : ℕ) (todo : Todo) (is : todo ≡ todo_with x row number) where
-  pub due-here : (its : Option ℕ) → record todo { due = its } ≡ todo_with (record x { due = set_at x.due number its }) row number
+module _ (x : Duties) (row : ℕ → Bool) (number : ℕ) (todo : Todo) (is : without_lost todo ≡ todo_with x row number) where
+  pub due-here : (its : Option ℕ) → without_lost (record todo { due = its }) ≡ todo_with (record x { due = set_at x.due number its }) row number
   due-here its = λ i. record {
     due = sym (set_at-here x.due number its number refl) i;
     tries = ap (λ (t : Todo). t.tries) is i;
     owes_release_ok = ap (λ (t : Todo). t.owes_release_ok) is i;
     calls = ap (λ (t : Todo). t.calls) is i;
+    lost = 0;
   }
 
-  pub tries-here : (its : Option ℕ) → record todo { tries = its } ≡ todo_with (record x { tries = set_at x.tries number its }) row number
+  pub tries-here : (its : Option ℕ) → without_lost (record todo { tries = its }) ≡ todo_with (record x { tries = set_at x.tries number its }) row number
   tries-here its = λ i. record {
     due = ap (λ (t : Todo). t.due) is i;
     tries = sym (set_at-here x.tries number its number refl) i;
     owes_release_ok = ap (λ (t : Todo). t.owes_release_ok) is i;
     calls = ap (λ (t : Todo). t.calls) is i;
+    lost = 0;
   }
 
-  pub owes-here : (its : Option ℕ) → record todo { owes_release_ok = its } ≡ todo_with (record x { owes_release_ok = set_at x.owes_release_ok number its }) row number
+  pub owes-here : (its : Option ℕ) → without_lost (record todo { owes_release_ok = its }) ≡ todo_with (record x { owes_release_ok = set_at x.owes_release_ok number its }) row number
   owes-here its = λ i. record {
     due = ap (λ (t : Todo). t.due) is i;
     tries = ap (λ (t : Todo). t.tries) is i;
     owes_release_ok = sym (set_at-here x.owes_release_ok number its number refl) i;
     calls = ap (λ (t : Todo). t.calls) is i;
+    lost = 0;
   }
 
-  pub both-here : (its other : Option ℕ) → record todo { tries = its; owes_release_ok = other }
+  pub both-here : (its other : Option ℕ) → without_lost (record todo { tries = its; owes_release_ok = other })
       ≡ todo_with (record x { tries = set_at x.tries number its; owes_release_ok = set_at x.owes_release_ok number other }) row number
   both-here its other = λ i. record {
     due = ap (λ (t : Todo). t.due) is i;
     tries = sym (set_at-here x.tries number its number refl) i;
     owes_release_ok = sym (set_at-here x.owes_release_ok number other number refl) i;
     calls = ap (λ (t : Todo). t.calls) is i;
+    lost = 0;
   }
 
 -- Whom the session has to call, after one of these is owed a call or was called.
-pub calls-here : (b : Beside) (number : ℕ) (todo : Todo) → todo ≡ todo_of b number → (other : ℕ) (owes : Bool)
-    → record todo { calls = set_at todo.calls other owes } ≡ todo_with b.duties (set_at b.sleeps.owed number (set_at (b.sleeps.owed number) other owes) number) number
+pub calls-here : (b : Beside) (number : ℕ) (todo : Todo) → without_lost todo ≡ todo_of b number → (other : ℕ) (owes : Bool)
+    → without_lost (record todo { calls = set_at todo.calls other owes }) ≡ todo_with b.duties (set_at b.sleeps.owed number (set_at (b.sleeps.owed number) other owes) number) number
 calls-here b number todo is other owes = λ i. record {
   due = ap (λ (t : Todo). t.due) is i;
   tries = ap (λ (t : Todo). t.tries) is i;
   owes_release_ok = ap (λ (t : Todo). t.owes_release_ok) is i;
   calls = (ap (λ (t : Todo). set_at t.calls other owes) is ∙ sym (set_at-here b.sleeps.owed number (set_at (b.sleeps.owed number) other owes) number refl)) i;
+  lost = 0;
 }
 
 -- What a put leaves to do.
@@ -163,9 +168,9 @@ module _ (w : World) (number : ℕ) (todo : Todo) (flagged : Bool) where
     flagged_ = λ x was. was;
   }
 
-  due-put : (lock : ℕ) (state : LockState) (word : ℕ) → state ≡ state_of word → (x : Duties) (row : ℕ → Bool) → todo ≡ todo_with x row number → todo_putting todo lock state ≡ todo_with (after_putting x number lock word) row number
+  due-put : (lock : ℕ) (state : LockState) (word : ℕ) → state ≡ state_of word → (x : Duties) (row : ℕ → Bool) → without_lost todo ≡ todo_with x row number → without_lost (todo_putting todo lock state) ≡ todo_with (after_putting x number lock word) row number
   due-put lock state word same x row is =
-      ap (todo_putting todo lock) same ∙ due-here x row number todo is (look_due lock word)
+      ap (λ its. without_lost (todo_putting todo lock its)) same ∙ due-here x row number todo is (look_due lock word)
 
   -- No look is due: a lock may be put.
   pub keeps-putting : (word : Word) (done : Move) (state : LockState) → state ≡ state_of (put_word (word_in w.words word)) → todo.due ≡ None
@@ -214,7 +219,7 @@ module _ (w : World) (number : ℕ) (todo : Todo) (flagged : Bool) where
       owes_no_ok = sym (ap (λ (t : Todo). t.owes_release_ok) is) ∙ none;
       no_other = λ lock has. subst (λ (t : Todo). NoneOr t.tries lock) is (no_other lock has);
     };
-    todo_ = λ b is. ap (todo_queueing todo) same ∙ both-here b.duties (b.sleeps.owed number) number todo is (w.sessions.has_list number) (w.sessions.has_list number);
+    todo_ = λ b is. ap (λ lock. without_lost (todo_queueing todo lock)) same ∙ both-here b.duties (b.sleeps.owed number) number todo is (w.sessions.has_list number) (w.sessions.has_list number);
     flagged_ = λ x was. was;
   }
 

@@ -12,7 +12,7 @@ use Rattle.shared_rule.specs.declared.rule.TableSizes.{TableSizes}
 use Rattle.shared_rule.specs.Owed.{owed_told}
 use Rattle.shared_rule.specs.Ruled.{todo_of, todo_with, OwesAsTold, StandsAtSeat, StandsClosed, WakesAreKept}
 use Rattle.shared_rule.specs.Tells.{AreTurnsTold, is_of_seats, turns_of}
-use Rattle.shared_rule.specs.Todos.{todo_told_by, flagged_told_by}
+use Rattle.shared_rule.specs.Todos.{without_lost, todo_told_by, flagged_told_by}
 use Rattle.shared_rule.proofs.Lemmas.Told.{of_seats}
 use Rattle.shared_rule.proofs.Lemmas.Turns.{events-push, turns-beside}
 
@@ -20,7 +20,7 @@ use Rattle.shared_rule.proofs.Lemmas.Turns.{events-push, turns-beside}
 
 -- A history tells the turns of its session, and what stands beside the World of it.
 pub record TellsSo {T : Type 0} (beside : Beside) (turns : List Turn) (history : History T) : Type 0 where
-  pub todo : todo_told_by history.number history.marks ≡ todo_of beside history.number
+  pub todo : without_lost (todo_told_by history.number history.marks) ≡ todo_of beside history.number
   pub flagged : flagged_told_by history.marks ≡ beside.duties.flagged history.number
   pub owed : OwesAsTold beside history.number (owed_told history.marks)
   pub turns_ : AreTurnsTold history.number history.marks (turns_of history.number turns)

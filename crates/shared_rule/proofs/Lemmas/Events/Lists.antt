@@ -1,4 +1,4 @@
-use Rattle.std.proofs.Common.{◌≡◌, ℕ, ◌/◌, ◌%◌, ◌^◌, Bool, true, false, List, [], ◌∷◌}
+use Rattle.std.proofs.Common.{◌≡◌, ◌⊎◌, arith, ℕ, ◌/◌, ◌%◌, ◌^◌, Bool, true, false, List, [], ◌∷◌}
 use Rattle.std.proofs.Common.{Option, Some, None, refl, sym, ap, ◌∙◌, subst, inl, inr, bit_and, bit_or}
 use Rattle.std.specs.Prelude.{slice_set, slice_index}
 use Rattle.std.specs.Global.{Box}
@@ -27,7 +27,10 @@ use Rattle.shared_rule.specs.declared.kept.Kept.{Kept}
 use Rattle.shared_rule.specs.declared.kept.Kept.TheVariants as kept
 use Rattle.shared_rule.specs.declared.lw_locks.LwLock.{LwLock}
 use Rattle.shared_rule.specs.Layout.{index_of_word, list_shelf_of, shelves_of}
-use Rattle.shared_rule.specs.LwLocks.{word_of_lock, lock_number, LockExists}
+use Rattle.lw_word.specs.declared.words.LwMode.{LwMode}
+use Rattle.lw_word.specs.declared.words.LwMode.TheVariants.{Exclusive, Shared}
+use Rattle.lw_word.specs.LightweightWord.{IsHeldByNobody}
+use Rattle.shared_rule.specs.LwLocks.{word_of_lock, lock_number, LockExists, IsFreeFor}
 use Rattle.shared_rule.specs.Waiters.{WaitersExist}
 use Rattle.shared_rule.proofs.Lemmas.Waiters.{listed-below}
 use Rattle.shared_rule.specs.Shown.{WordsAreShown, set_word}
@@ -39,6 +42,18 @@ use Rattle.shared_rule.proofs.Lemmas.Frame.{sees_list_locked, sees_held, ruled-s
 use Rattle.shared_rule.proofs.Lemmas.Events.Words.{nothing-changes, looks-only}
 use Rattle.shared_rule.proofs.Lemmas.Events.ListShelves.{or-locked, lock-below, lock-word_there, same-lock, shown-locked, shown-held, unlocked-in_no_hand, known-list, no_list-known, contents-beside, list-taken, list-put}
 use Rattle.shared_rule.proofs.Lemmas.Events.ListSteps.{locking-noted, unlocking-noted}
+
+-- A lock's word either lets a session have the lock in a mode, or shows somebody in the way, who has it.
+free-or : (mode : LwMode) (shown : ℕ) → IsFreeFor mode shown ⊎ (IsFreeFor mode shown → ⊥)
+free-or Exclusive shown = cases_eq (shown % 2 ^ 25) 0
+free-or Shared shown = cases_eq (shown / 2 ^ 24 % 2) 0
+
+nobody-there : (shown : ℕ) → shown % 2 ^ 25 ≡ 0 → shown / 2 ^ 24 % 2 ≡ 0
+nobody-there shown nobody = omega (arith, nobody)
+
+in-the-way : (mode : LwMode) (shown : ℕ) → (IsFreeFor mode shown → ⊥) → IsHeldByNobody shown → ⊥
+in-the-way Exclusive shown held nobody = held nobody
+in-the-way Shared shown held nobody = held (nobody-there shown nobody)
 
 module _ {T : Type 0} (content : T → Content) (begun : T → Option Request) (sizes : TableSizes) (slots id : ℕ) (me : Side T) (x : History T) (others : List (History T)) (is : me.0.sessions ≡ x ∷ others)
     (lock : LwLock) (there : LockExists sizes.sessions lock) where
@@ -169,9 +184,9 @@ module _ {T : Type 0} (content : T → Content) (begun : T → Option Request) (
       (subst (λ (m : ℕ → Mark T). AllowsStep content begun sizes slots id me at_word (λ n. bit_and n (kept_bits has_waiters release_ok)) (WentHome m (step slots at_word (kept_bits has_waiters release_ok) 0 none) me)) (sym marked)
       (unlocks_list has_waiters release_ok list room sized known carried waiters_stay release_stays well (step slots at_word (kept_bits has_waiters release_ok) 0 none))))
 
-  -- A load sees whether the lock is held.
-  sees_it_held : NoneOr (todo_told_by x.number x.marks).tries (lock_number lock) → (its : Step (Kept T)) → its.word ≡ at_word → AllowsStep content begun sizes slots id me at_word (λ n. n) (SawHeldOr its me)
-  sees_it_held fits its word s r many at_view below = elim (cases_eq (n % 2 ^ 25) 0) [
+  -- A load sees whether somebody is in the way.
+  sees_it_held : (mode : LwMode) → NoneOr (todo_told_by x.number x.marks).tries (lock_number lock) → (its : Step (Kept T)) → its.word ≡ at_word → AllowsStep content begun sizes slots id me at_word (λ n. n) (SawHeldOr mode its me)
+  sees_it_held mode fits its word s r many at_view below = elim (free-or mode n) [
     | inl free ↦ (
       me.0,
       keeps,
@@ -184,7 +199,7 @@ module _ {T : Type 0} (content : T → Content) (begun : T → Option Request) (
       keeps,
       tt,
       looks-only content begun sizes id at_word me.0 x others is s r at_view (mark.SawHeld (lock_number lock) n)
-          (sees_held (lock_number lock) n refl (shown-held r.world lock n (sym (r.shown.of_words.word (word_of_lock lock) (lock-word_there sizes lock there))) held) fits),
+          (sees_held (lock_number lock) n refl (shown-held r.world lock n (sym (r.shown.of_words.word (word_of_lock lock) (lock-word_there sizes lock there))) (in-the-way mode n held)) fits),
       (
         (λ free. absurd (held free)),
         (λ _ sessions other also same.
@@ -196,6 +211,6 @@ module _ {T : Type 0} (content : T → Content) (begun : T → Option Request) (
     n : ℕ
     n = slice_index s.words at_word
 
-  pub sees_held_at : NoneOr (todo_told_by x.number x.marks).tries (lock_number lock) → (i : ℕ) → i ≡ at_word → AllowsStep content begun sizes slots id me i (λ n. n) (SawHeldOr (step slots i 0 0 none) me)
-  sees_held_at fits i at =
-      subst (λ k. AllowsStep content begun sizes slots id me k (λ n. n) (SawHeldOr (step slots k 0 0 none) me)) (sym at) (sees_it_held fits (step slots at_word 0 0 none) refl)
+  pub sees_held_at : (mode : LwMode) → NoneOr (todo_told_by x.number x.marks).tries (lock_number lock) → (i : ℕ) → i ≡ at_word → AllowsStep content begun sizes slots id me i (λ n. n) (SawHeldOr mode (step slots i 0 0 none) me)
+  sees_held_at mode fits i at =
+      subst (λ k. AllowsStep content begun sizes slots id me k (λ n. n) (SawHeldOr mode (step slots k 0 0 none) me)) (sym at) (sees_it_held mode fits (step slots at_word 0 0 none) refl)

@@ -33,7 +33,7 @@ use Rattle.shared_rule.specs.Owed.{first_owed, owed_told}
 use Rattle.shared_rule.specs.Tells.{AreTurnsTold, turns_of}
 use Rattle.shared_rule.proofs.Lemmas.Calls.{none-owed_call}
 use Rattle.shared_rule.specs.LwLocks.{no_lists}
-use Rattle.shared_rule.specs.Todos.{first_todo, nothing_to_do}
+use Rattle.shared_rule.specs.Todos.{first_todo, nothing_to_do, without_lost}
 use Rattle.shared_rule.proofs.Lemmas.Idle.{lists-told}
 use Rattle.shared_rule.proofs.Lemmas.Owings.{nothing-left}
 use Rattle.shared_rule.proofs.Lemmas.WakeSeats.{TellsSo, each-tells, new-tells, wakes-seated, wakes-moved}
@@ -174,7 +174,7 @@ module _ {T : Type 0} (content : T → Content) (begun : T → Option Request) (
       (closed-closing s.views r.world.numbers r.events id opener other k one.marks at stands apart r.steps)
       (wakes-seated sizes s.views _ r.events r.world (after_closing r.world k) (record { session = k; step = JoinSeat None }) (may_close, refl) r.wakes
       (nothing-left r.world r.wakes.beside k may_close.no_word may_close.no_fast_word may_close.no_shared_word may_close.no_shared_fast_word
-      (sym free ∙ ap (λ (z : View T). first_todo z.sessions) one.one ∙ r.wakes.todo its its_stands)
+      (sym (ap without_lost free) ∙ ap (λ (z : View T). without_lost (first_todo z.sessions)) one.one ∙ r.wakes.todo its its_stands)
       (none-owed_call r.wakes.beside k (owed_told one.marks) (sym (ap (λ (z : View T). first_owed z.sessions) one.one) ∙ wakes_nobody) (r.wakes.owed its its_stands))
       may_close.no_list may_close.none_untold) tt refl refl refl refl
       (each-closing s.views r.world.numbers r.events id opener other k one.marks at stands apart r.steps (TellsSo r.wakes.beside r.wakes.turns) (each-tells sizes s.views r.events r.world r.wakes))
@@ -264,7 +264,7 @@ module _ {T : Type 0} (content : T → Content) (begun : T → Option Request) (
         refl (told-kept after r.world.numbers r.events (after_keeping_apart r.world b x.number).numbers.kept_by met_steps) stood
         (wakes-seated sizes s.views after r.events r.world (after_keeping_apart r.world b x.number) (record { session = b; step = JoinSeat (Some x.number) }) (may_be, refl) r.wakes
         (nothing-left r.world r.wakes.beside b may_be.no_word may_be.no_fast_word may_be.no_shared_word may_be.no_shared_fast_word
-        (sym free.idle.free ∙ r.wakes.todo theirs its_stands) (none-owed_call r.wakes.beside b (owed_told marks) free.wakes_nobody (r.wakes.owed theirs its_stands))
+        (sym (ap without_lost free.idle.free) ∙ r.wakes.todo theirs its_stands) (none-owed_call r.wakes.beside b (owed_told marks) free.wakes_nobody (r.wakes.owed theirs its_stands))
         (no-list (r.world.sessions.has_list b) r.world.words.list (ap (λ (l : ListAccount). l.in_hand) no_lists_there)) (λ o. ap (λ (l : ListAccount). l.off o) no_lists_there)) tt refl refl refl refl
         each (λ h stands. r.wakes.told.closed h (stood h stands)) (λ j later. later))
 

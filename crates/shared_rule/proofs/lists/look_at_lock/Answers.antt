@@ -8,7 +8,7 @@ use Rattle.shared_rule.specs.Plays.{side_of, Side}
 use Rattle.shared_rule.proofs.Lemmas.Placed.{allowed}
 use Rattle.shared_rule.proofs.Lemmas.Taken.{tries-known}
 use Rattle.shared_rule.proofs.Lemmas.Events.Lists.{sees_held_at}
-use Rattle.shared_rule.proofs.Lemmas.Led.{led-noted, led-none}
+use Rattle.shared_rule.proofs.Lemmas.Led.{led-noted}
 use Rattle.shared_rule.proofs.lists.look_at_lock.Goals as goal
 
 pub load-requires : goal.load-requires
@@ -18,9 +18,9 @@ load-requires g c =
       c.requires.table.at,
       search rules,
       allowed g.T.PartTable.content g.T.PartTable.begun c.args.words.now.key c.args.words.now.table_id.slots c.args.seat.now.id c.args.seat.now.me c.word.result
-          (λ n. n) (SawHeldOr (step c.args.words.now.table_id.slots c.word.result 0 0 none) (side_of seat))
+          (λ n. n) (SawHeldOr g.W.Seeking.mode (step c.args.words.now.table_id.slots c.word.result 0 0 none) (side_of seat))
           (sees_held_at g.T.PartTable.content g.T.PartTable.begun c.args.words.now.key c.args.words.now.table_id.slots seat.id (side_of seat)
-          session.history session.others session.sessions c.args.lock.now c.requires.exists (tries-known (side_of seat).0 session (lock_number c.args.lock.now) c.requires.no_other_try) c.word.result (c.word.ensures.index c.args.words.now.key.sessions)),
+          session.history session.others session.sessions c.args.lock.now c.requires.exists g.W.Seeking.mode (tries-known (side_of seat).0 session (lock_number c.args.lock.now) c.requires.no_other_try) c.word.result (c.word.ensures.index c.args.words.now.key.sessions)),
     )
 
 pub returns-clause-held : goal.returns-clause-held
@@ -28,22 +28,12 @@ returns-clause-held g c = λ held.
     let seat = c.args.seat.now in
     let saw = c.load.ensures.2.1 held c.args.words.now.key.sessions c.args.lock.now c.requires.exists (c.word.ensures.index c.args.words.now.key.sessions) in
     record {
-      led = led-noted g.T.PartTable.content seat c.load.new.seat (SawHeld (lock_number c.args.lock.now) c.load.result) c.requires.session
-          (record { table_id = c.load.ensures.0; id = c.load.ensures.1 }) (ap (λ (side : Side g.row.T.Denot). side.0) saw) (λ owed i. owed);
-      shelves = ap (λ (side : Side g.row.T.Denot). side.1) saw;
-    }
-
-pub returns-clause-noted : goal.returns-clause-noted
-returns-clause-noted g c = λ held.
-    ap (λ (side : Side g.row.T.Denot). side.0)
-    (c.load.ensures.2.1 held c.args.words.now.key.sessions c.args.lock.now c.requires.exists (c.word.ensures.index c.args.words.now.key.sessions))
-
-pub returns-clause-free : goal.returns-clause-free
-returns-clause-free g c = λ free.
-    let seat = c.args.seat.now in
-    let same = c.load.ensures.2.0 free in
-    record {
-      led = led-none g.T.PartTable.content seat c.load.new.seat c.requires.session
-          (record { table_id = c.load.ensures.0; id = c.load.ensures.1 }) (ap (λ (side : Side g.row.T.Denot). side.0) same);
-      shelves = ap (λ (side : Side g.row.T.Denot). side.1) same;
+      nothing = record {
+        led = led-noted g.T.PartTable.content seat c.load.new.seat (SawHeld (lock_number c.args.lock.now) c.load.result) c.requires.session
+            (record { table_id = c.load.ensures.0; id = c.load.ensures.1 }) (ap (λ (side : Side g.row.T.Denot). side.0) saw) (λ owed i. owed);
+        shelves = ap (λ (side : Side g.row.T.Denot). side.1) saw;
+      };
+      shown = c.load.result;
+      noted = ap (λ (side : Side g.row.T.Denot). side.0) saw;
+      in_the_way = held;
     }

@@ -5,7 +5,6 @@ use Rattle.shared_rule.specs.Layout.{index_of_word}
 use Rattle.shared_rule.specs.Looks.{is_call}
 use Rattle.shared_rule.specs.Marks.{ParksWaiting}
 use Rattle.shared_rule.specs.Parks.{at_wait_word}
-use Rattle.shared_rule.specs.Plays.{Side}
 use Rattle.shared_rule.specs.declared.history.Mark.{Mark}
 use Rattle.shared_rule.proofs.Lemmas.Events.Words.{parks_at}
 use Rattle.shared_rule.proofs.Lemmas.Frame.{parks_on_wait}

@@ -3,7 +3,7 @@ use Rattle.atomic_table.specs.Table.{step}
 use mathlib.Core.Option.{none}
 use prog.Atomic.{either}
 use Rattle.std.specs.Prelude.{◌==◌}
-use Rattle.std.proofs.Common.{rules, ◌≡◌, ◌∷◌, sym, ap, ◌∙◌, subst}
+use Rattle.std.proofs.Common.{rules, ◌≡◌, sym, ap, ◌∙◌, subst}
 use Rattle.lock_world.specs.AccountFacts.{KnowsContent}
 use Rattle.shared_rule.specs.Marks.{TookPart}
 use Rattle.shared_rule.specs.declared.kept.Kept.TheVariants.{Part, Nothing}
@@ -82,16 +82,3 @@ returns-clause-won g c =
       waiters = subst (λ its. WaitsExist c.args.words.now.key.sessions (content its)) same
           (subst (λ n. WaitsExist n (content took.part)) (ap (λ (s : TableSizes). s.sessions) c.requires.sizes) took.waiters);
     }
-
-pub returns-clause-side : goal.returns-clause-side
-returns-clause-side g c =
-    let part = c.args.part in
-    let seat = c.args.seat.now in
-    let took = c.compare_exchange.ensures.2.0 (search rules) part c.requires.exists (c.partition_word.ensures.index g.G.Sizing.sizes.sessions) in
-    let came : c.exchange.result ≡ Part took.part =
-    last-came (side_of c.compare_exchange.new.seat) (noting (side_of seat).0 (TookPart part took.part)) c.content_shelf.result (content_shelf_of part)
-    (Part took.part) c.exchange.result (side_of seat).1 took.side c.exchange.ensures.2 in
-    let same : took.part ≡ c.into_part.result = part-same took.part c.into_part.result (sym came ∙ c.into_part.ensures) in
-    last-set (side_of c.compare_exchange.new.seat) (side_of c.exchange.new.seat) (noting (side_of seat).0 (TookPart part took.part)) c.content_shelf.result
-    (content_shelf_of part) (Part took.part) Nothing (side_of seat).1 took.side c.content_shelf.ensures.shelf (ap side_in c.exchange.ensures.3)
-    ∙ ap (λ its. (noting (side_of seat).0 (TookPart part its), (content_shelf_of part, Nothing) ∷ (side_of seat).1)) same
