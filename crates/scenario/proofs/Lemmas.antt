@@ -1,5 +1,6 @@
 -- The lemmas that proofs of several functions share.
 pub mod Actions
+pub mod Answered
 pub mod Numbers
 pub mod Failing
 pub mod Hearing
@@ -13,3 +14,4 @@ pub mod Noted
 pub mod Playing
 pub mod Polling
 pub mod Printing
+pub mod Waits

@@ -1,9 +1,12 @@
 use Rattle.std.specs.Prelude.{◌≡◌, ℕ, Option, Some, None, remove}
 use Rattle.std.specs.List.{HoldsAt}
 use Rattle.modes_core.specs.declared.sessions.Owner.{Owner}
+use Rattle.modes_core.specs.declared.sessions.Owner.TheVariants as owner
+use Rattle.local_locks.specs.Owned.{own_count_of}
 use Rattle.lock_world.specs.Account.{Account}
 use Rattle.shared_rule.specs.Boards.{Seated, Stack}
 use Rattle.lock_manager.specs.declared.blocked.Blocked.{Blocked}
+use Rattle.lock_manager.specs.declared.calls.Call.{Call}
 use Rattle.lock_manager.specs.Sessions.{SessionView}
 use Rattle.lock_manager.specs.WaitingSessions.{WaitingView}
 use Rattle.lock_script.specs.declared.command.Target.{Target}
@@ -16,20 +19,34 @@ use Rattle.scenario.specs.declared.answers.Answer.{Answer}
 use Rattle.scenario.specs.declared.answers.Answer.TheVariants as answer
 use Rattle.scenario.specs.declared.answers.Said.{Said}
 use Rattle.scenario.specs.declared.answers.Said.TheVariants as said
-use Rattle.scenario.specs.declared.calls.Call.{Call}
 use Rattle.scenario.specs.Made.{IsMade}
-use Rattle.scenario.specs.Waits.{GoesOn, IsBegun, IsQueued, LooksOn, TellsBlocked}
+use Rattle.scenario.specs.Waits.{GoesOn, IsBegun, IsQueued, LooksAround, LooksOn, TellsBlocked}
 
 -- What a command leaves of the sessions of a script, and what it is answered.
 
 module _ {B : Type 0} (seat : B → Seated) (view : B → Account) (stack : B → Stack) (old new : OpenSessions (SessionView B) (WaitingView B)) where
-  -- The session at its place has made the call and is answered under its name, and all others are as they
-  -- were.
-  pub record CallsAt (caller : Caller) (call : Call) (it : Answer) : Type 0 where
+  -- The session at its place has made the call, which may be about another one, and is answered under its
+  -- name, and all others are as they were.
+  pub record CallsAt (caller : Caller) (other : ArrayString 16) (call : Call) (it : Answer) : Type 0 where
     pub after : SessionView B
-    pub made : HoldsAt (λ one. IsMade seat view stack one.session after caller.name call it) old.resting caller.place
+    pub made : HoldsAt (λ one. IsMade seat view stack one.session after caller.name other call it) old.resting caller.place
     pub there : new.resting ≡ with_session old.resting caller.place after
     pub waiting : new.waiting ≡ old.waiting
+
+  -- The session at this place has looked at what others have, and all others are as they were.
+  pub record LooksAroundAt (place : ℕ) : Type 0 where
+    pub after : SessionView B
+    pub looked : HoldsAt (λ one. LooksAround seat one.session after) old.resting place
+    pub there : new.resting ≡ with_session old.resting place after
+    pub waiting : new.waiting ≡ old.waiting
+
+  -- The session at its place is told how often each owner of it has the lock, and all are as they were.
+  pub record OwnsAt (target : Target) (it : Answer) : Type 0 where
+    pub told :
+        HoldsAt (λ one. it ≡ answer.Said target.caller.name (said.Owned
+        (own_count_of one.session.owned target.tag target.mode owner.Transaction)
+        (own_count_of one.session.owned target.tag target.mode owner.Session))) old.resting target.caller.place
+    pub same : new ≡ old
 
   -- The session at its place has asked for a lock that it may wait for, is told what came of it, and doesn't
   -- wait.

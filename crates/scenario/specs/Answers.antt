@@ -23,7 +23,7 @@ use Rattle.scenario.specs.declared.answers.Row.TheVariants as row
 use Rattle.scenario.specs.declared.answers.Said.TheVariants as said
 use Rattle.scenario.specs.declared.sessions.Action.{Action}
 use Rattle.scenario.specs.declared.sessions.Action.TheVariants as action
-use Rattle.scenario.specs.Answered.{AcquiresAt, CallsAt, ClosesAt, WaitsAt}
+use Rattle.scenario.specs.Answered.{AcquiresAt, CallsAt, ClosesAt, OwnsAt, WaitsAt}
 use Rattle.scenario.specs.Calls.{IsActionOf}
 use Rattle.scenario.specs.Numbers.{IsNamed}
 
@@ -84,7 +84,8 @@ module _
   IsDone (action.Lock target owner) it =
       (AcquiresAt seat view stack old.sessions new.sessions target owner it ⊎ WaitsAt seat view stack old.sessions new.sessions target owner it)
       × (new.names ≡ old.names)
-  IsDone (action.Make caller call) it = CallsAt seat view stack old.sessions new.sessions caller call it × (new.names ≡ old.names)
+  IsDone (action.Make caller other call) it = CallsAt seat view stack old.sessions new.sessions caller other call it × (new.names ≡ old.names)
+  IsDone (action.Owned target) it = OwnsAt seat view stack old.sessions new.sessions target it × (new.names ≡ old.names)
   IsDone (action.Hash tag) it = (it ≡ answer.Row (row.Hash tag)) × (new ≡ old)
 
   -- The command was carried out by the call that it is, and this is its answer.

@@ -7,13 +7,12 @@ use Rattle.arrayvec.specs.declared.array_string.ArrayString.{ArrayString}
 use Rattle.lock_manager.specs.declared.blocked.Blocked.{Blocked}
 use Rattle.lock_manager.specs.Sessions.{SessionView}
 use Rattle.lock_script.specs.declared.command.Command.{Command}
-use Rattle.lock_script.specs.Lending.{with_session}
 use Rattle.lock_script.specs.Names.{IsCalled}
 use Rattle.scenario.specs.declared.answers.Answer.{Answer}
 use Rattle.scenario.specs.declared.answers.Said.{Said}
 use Rattle.scenario.specs.declared.answers.Said.TheVariants as said
 use Rattle.scenario.specs.declared.answers.Answer.TheVariants as answer_
-use Rattle.scenario.specs.Answered.{GoesOnAt, TellsBlockedAt, WaitsOnAt}
+use Rattle.scenario.specs.Answered.{GoesOnAt, LooksAroundAt, TellsBlockedAt, WaitsOnAt}
 use Rattle.scenario.specs.Answers.{Answers, Cast}
 use Rattle.scenario.specs.Heard.{Heard, HearsAll, Told, Behind, Drawn, Done, told_of}
 use Rattle.scenario.specs.Polled.{PollsEach}
@@ -21,16 +20,15 @@ use Rattle.scenario.specs.Waits.{GoesOn, LooksOn}
 
 -- What is heard of a line of a script: its answer, once, and then those who go on.
 
--- A picture is drawn behind a listing, where one is wanted. Who waits for whom is looked up by the session
--- that listed, and may be refused.
-abbrev pub DrawsPicture : {B : Type 0} → Cast B → List Heard → Cast B → Type 0
-DrawsPicture {B} old heard new =
-    ((heard ≡ []) × (new ≡ old))
-    ⊎ ((place : ℕ) × (after : SessionView B) × (new.sessions.resting ≡ with_session old.sessions.resting place after)
-    × (new.sessions.waiting ≡ old.sessions.waiting) × (new.names ≡ old.names)
-    × ((heard ≡ Drawn ∷ []) ⊎ ((name : ArrayString 16) × (refusal : Refusal) × (heard ≡ Told new.names name (said.Refused refusal) ∷ []))))
-
 module _ {B : Type 0} (seat : B → Seated) (view : B → Account) (stack : B → Stack) where
+  -- A picture is drawn behind a listing, where one is wanted. Who waits for whom is looked up by the session
+  -- that listed, and may be refused.
+  abbrev pub DrawsPicture : Cast B → List Heard → Cast B → Type 0
+  DrawsPicture old heard new =
+      ((heard ≡ []) × (new ≡ old))
+      ⊎ ((place : ℕ) × LooksAroundAt seat view stack old.sessions new.sessions place × (new.names ≡ old.names)
+      × ((heard ≡ Drawn ∷ []) ⊎ ((name : ArrayString 16) × (refusal : Refusal) × (heard ≡ Told new.names name (said.Refused refusal) ∷ []))))
+
   -- A session that has begun to wait says who is in its way, where somebody wants to hear that.
   abbrev pub TellsWait : ArrayString 16 → Cast B → List Heard → Cast B → Type 0
   TellsWait name old heard new =

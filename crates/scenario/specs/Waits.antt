@@ -43,6 +43,13 @@ module _ {B : Type 0} (seat : B → Seated) (view : B → Account) (stack : B �
     pub steps : Begins Waiting (seat old.board) old.owned (view old.board) old.uses tag mode (Ok begun.Queued) (view new.board) new.uses
     pub begun : HasBegun seat view stack old tag mode owner new
 
+-- A session has looked at what others have, any number of times: it is the same one, and has what it had.
+pub record LooksAround {B : Type 0} (seat : B → Seated) (old new : SessionView B) : Type 0 where
+  pub seat_ : seat new.board ≡ seat old.board
+  pub database : new.database ≡ old.database
+  pub owned : new.owned ≡ old.owned
+  pub uses : new.uses ≡ old.uses
+
 -- A session cancels its wait, which may have been granted before that.
 pub record GivesUp {B : Type 0} (seat : B → Seated) (view : B → Account) (stack : B → Stack) (old : WaitingView B) (was_granted : Bool) (new : SessionView B) :
     Type 0 where

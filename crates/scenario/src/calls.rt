@@ -1,8 +1,7 @@
-//! The calls that a line has its session make, over any board, and what it is answered. Each keeps whose
-//! session it is.
-ghost use Rattle.std.specs.Prelude.{◌≡◌, ℕ, ◌<◌};
-ghost use Rattle.scenario.specs.Calls.{ShowsCounter};
-ghost use Rattle.scenario.specs.Made.{IsMade, Looks, SeesCount};
+//! The calls that a line has its session make, over any board, and what it is answered.
+ghost use Rattle.scenario.specs.Calls.{IsScripted};
+ghost use Rattle.scenario.specs.Made.{Fits, IsMade, IsTold};
+ghost use Rattle.scenario.specs.Waits.{LooksAround};
 
 use crate::answers::{
     Answer, Row, Said, of_acquire, of_blockers, of_cancel, of_level, of_list, of_queue, of_unlock,
@@ -10,292 +9,61 @@ use crate::answers::{
 };
 use crate::picture::Picture;
 use crate::style::Pen;
-use lock_manager::{Mode, OwnSession, Owner, Refusal, SessionId, TableRow, Tag};
+use lock_manager::{self, Call, OwnSession, Refusal, TableRow};
 use lock_script::Name;
 use lock_table::PartTable;
 use shared_rule::Board;
 use std::sync::Wait;
 
-/// A call that a session which doesn't wait is asked to make, and that is answered at once.
-#[derive(Clone, Copy, Debug, PartialEq, Eq)]
-pub enum Call {
-    /// To take a mode on an object for an owner, or to be refused.
-    Try(Tag, Mode, Owner),
-    /// To take a mode on an object for an owner in one of the session's fast-path slots, or to be refused.
-    Fast(Tag, Mode, Owner),
-    /// To release a mode on an object once for an owner.
-    Unlock(Tag, Mode, Owner),
-    /// To give all advisory locks back that the session itself owns, not its transaction.
-    UnlockAll,
-    /// To end the session's transaction with success.
-    Commit,
-    /// To end the session's transaction with failure.
-    Abort,
-    /// To begin a level of the session's transaction (a subtransaction).
-    Begin,
-    /// To end the innermost level of the session's transaction with success.
-    SubCommit,
-    /// To end the innermost level of the session's transaction with failure.
-    SubAbort,
-    /// To say how often each owner of the session has an object in a mode.
-    Owned(Tag, Mode),
-    /// To say whether somebody waits for an object in a mode that conflicts with this one, which the session
-    /// has.
-    Waiters(Tag, Mode),
-    /// To list who waits for an object.
-    Queue(Tag),
-    /// To list who is in the way of the session of this name and number on an object.
-    Blockers(Name, SessionId, Tag),
-    /// To ask the session of this name and number to stop waiting.
-    Cancel(Name, SessionId),
-    /// To list all that is held and awaited.
-    List,
-    /// To say what the strong lock counter with this index shows.
-    Count(u16),
-}
-
-/// Has `session`, which a script calls `name`, make the call `call`, and answers the call.
+/// Has `session`, which a script calls `name`, make the call `call`, and answers the call. Where that is
+/// about another session, `other` is the name of that one.
 pub fn make<T: PartTable, B: Board<T>, H: Wait>(
     rt: &H,
     session: &mut OwnSession<T, B>,
     name: Name,
-    call: Call,
+    other: Name,
+    call: &Call,
 ) -> Answer
-    requires counter { ShowsCounter call }
-    ensures made { IsMade B.seat B.view B.stack session.old session.new name call result }
-    ensures seat { B.seat session.new.board ≡ B.seat session.old.board }
+    requires { IsScripted call.now }
+    ensures { IsMade B.seat B.view B.stack session.old session.new name other call.now result }
 {
-    match call {
-        Call::Try(tag, mode, owner) => try_lock(rt, session, name, tag, mode, owner),
-        Call::Fast(tag, mode, owner) => try_fast(session, name, tag, mode, owner),
-        Call::Unlock(tag, mode, owner) => unlock(rt, session, name, tag, mode, owner),
-        Call::UnlockAll => unlock_all(rt, session, name),
-        Call::Commit => commit(rt, session, name),
-        Call::Abort => abort(rt, session, name),
-        Call::Begin => begin_nested(session, name),
-        Call::SubCommit => commit_nested(session, name),
-        Call::SubAbort => abort_nested(rt, session, name),
-        Call::Owned(tag, mode) => owned(session, name, tag, mode),
-        Call::Waiters(tag, mode) => waiters(rt, session, name, tag, mode),
-        Call::Queue(tag) => queue(rt, session, name, tag),
-        Call::Blockers(other, number, tag) => blockers(rt, session, name, other, number, tag),
-        Call::Cancel(other, number) => ask_cancel(session, name, other, number),
-        Call::Count(index) => count(session, index),
-        Call::List => list(rt, session, name),
+    let answer = session.make(rt, *call);
+    tell(name, other, call, answer)
+}
+
+/// What the session `name` is told of `call`, which was answered `answer`. Where the call is about another
+/// session, `other` is the name of that one.
+fn tell(name: Name, other: Name, call: &Call, answer: lock_manager::Answer) -> Answer
+    requires { Fits call.now answer }
+    ensures { IsTold name other call.now answer result }
+{
+    match answer {
+        lock_manager::Answer::Acquired(answer) => of_acquire(name, answer),
+        lock_manager::Answer::Unlocked(answer) => match *call {
+            Call::Unlock(_, mode, _) => of_unlock(name, mode, answer),
+            _ => unreachable!(),
+        },
+        lock_manager::Answer::Released(count) => Answer::Said(name, Said::UnlockedAll(count)),
+        lock_manager::Answer::Ended => match call {
+            Call::Commit => Answer::Said(name, Said::Committed),
+            Call::Abort => Answer::Said(name, Said::Aborted),
+            _ => unreachable!(),
+        },
+        lock_manager::Answer::Level(answer) => of_level(name, answer),
+        lock_manager::Answer::HasWaiters(answer) => match *call {
+            Call::HasWaiters(_, mode) => of_waiters(name, mode, answer),
+            _ => unreachable!(),
+        },
+        lock_manager::Answer::Queue(answer) => of_queue(name, answer),
+        lock_manager::Answer::Blockers(answer) => of_blockers(name, other, answer),
+        lock_manager::Answer::Listing(answer) => of_list(name, answer),
+        lock_manager::Answer::StrongCount(Some(shown)) => match *call {
+            Call::StrongCount(index) => Answer::Row(Row::Counter { index, shown }),
+            _ => unreachable!(),
+        },
+        lock_manager::Answer::Asked(asked) => of_cancel(name, other, asked),
+        _ => unreachable!(),
     }
-}
-
-/// Has `session` take `mode` on `tag` for `owner`, or refuses at once. The answer is for `name`.
-fn try_lock<T: PartTable, B: Board<T>, H: Wait>(
-    rt: &H,
-    session: &mut OwnSession<T, B>,
-    name: Name,
-    tag: Tag,
-    mode: Mode,
-    owner: Owner,
-) -> Answer
-    ensures made { IsMade B.seat B.view B.stack session.old session.new name (Call.Try tag mode owner) result }
-    ensures seat { B.seat session.new.board ≡ B.seat session.old.board }
-{
-    of_acquire(name, session.try_lock(rt, tag, mode, owner))
-}
-
-/// Has `session` take `mode` on `tag` for `owner` in one of the session's fast-path slots, or refuses at
-/// once. The answer is for `name`.
-fn try_fast<T: PartTable, B: Board<T>>(
-    session: &mut OwnSession<T, B>,
-    name: Name,
-    tag: Tag,
-    mode: Mode,
-    owner: Owner,
-) -> Answer
-    ensures made { IsMade B.seat B.view B.stack session.old session.new name (Call.Fast tag mode owner) result }
-    ensures seat { B.seat session.new.board ≡ B.seat session.old.board }
-{
-    of_acquire(name, session.try_fast(tag, mode, owner))
-}
-
-/// Has `session` release `mode` on `tag` once for `owner`. The answer is for `name`.
-fn unlock<T: PartTable, B: Board<T>, H: Wait>(
-    rt: &H,
-    session: &mut OwnSession<T, B>,
-    name: Name,
-    tag: Tag,
-    mode: Mode,
-    owner: Owner,
-) -> Answer
-    ensures made { IsMade B.seat B.view B.stack session.old session.new name (Call.Unlock tag mode owner) result }
-    ensures seat { B.seat session.new.board ≡ B.seat session.old.board }
-{
-    of_unlock(name, mode, session.unlock(rt, tag, mode, owner))
-}
-
-/// Has `session` give all advisory locks back that the session itself owns. The answer is for `name`.
-fn unlock_all<T: PartTable, B: Board<T>, H: Wait>(
-    rt: &H,
-    session: &mut OwnSession<T, B>,
-    name: Name,
-) -> Answer
-    ensures made { IsMade B.seat B.view B.stack session.old session.new name Call.UnlockAll result }
-    ensures seat { B.seat session.new.board ≡ B.seat session.old.board }
-{
-    let released = session.unlock_all(rt);
-    Answer::Said(name, Said::UnlockedAll(released))
-}
-
-/// Ends the transaction of `session`, which succeeded. The answer is for `name`.
-fn commit<T: PartTable, B: Board<T>, H: Wait>(
-    rt: &H,
-    session: &mut OwnSession<T, B>,
-    name: Name,
-) -> Answer
-    ensures made { IsMade B.seat B.view B.stack session.old session.new name Call.Commit result }
-    ensures seat { B.seat session.new.board ≡ B.seat session.old.board }
-{
-    session.commit(rt);
-    Answer::Said(name, Said::Committed)
-}
-
-/// Ends the transaction of `session`, which failed. The answer is for `name`.
-fn abort<T: PartTable, B: Board<T>, H: Wait>(
-    rt: &H,
-    session: &mut OwnSession<T, B>,
-    name: Name,
-) -> Answer
-    ensures made { IsMade B.seat B.view B.stack session.old session.new name Call.Abort result }
-    ensures seat { B.seat session.new.board ≡ B.seat session.old.board }
-{
-    session.abort(rt);
-    Answer::Said(name, Said::Aborted)
-}
-
-/// Begins a level of the transaction of `session`. The answer is for `name`.
-fn begin_nested<T: PartTable, B: Board<T>>(session: &mut OwnSession<T, B>, name: Name) -> Answer
-    ensures made { IsMade B.seat B.view B.stack session.old session.new name Call.Begin result }
-    ensures seat { B.seat session.new.board ≡ B.seat session.old.board }
-{
-    of_level(name, session.begin_nested())
-}
-
-/// Ends the innermost level of the transaction of `session` with success. The answer is for `name`.
-fn commit_nested<T: PartTable, B: Board<T>>(session: &mut OwnSession<T, B>, name: Name) -> Answer
-    ensures made { IsMade B.seat B.view B.stack session.old session.new name Call.SubCommit result }
-    ensures seat { B.seat session.new.board ≡ B.seat session.old.board }
-{
-    of_level(name, session.commit_nested())
-}
-
-/// Ends the innermost level of the transaction of `session` with failure. The answer is for `name`.
-fn abort_nested<T: PartTable, B: Board<T>, H: Wait>(
-    rt: &H,
-    session: &mut OwnSession<T, B>,
-    name: Name,
-) -> Answer
-    ensures made { IsMade B.seat B.view B.stack session.old session.new name Call.SubAbort result }
-    ensures seat { B.seat session.new.board ≡ B.seat session.old.board }
-{
-    of_level(name, session.abort_nested(rt))
-}
-
-/// How often `session` has `tag` in `mode`: for the innermost level of its transaction, and for the session
-/// itself. The answer is for `name`.
-fn owned<T: PartTable, B: Board<T>>(
-    session: &mut OwnSession<T, B>,
-    name: Name,
-    tag: Tag,
-    mode: Mode,
-) -> Answer
-    ensures made { IsMade B.seat B.view B.stack session.old session.new name (Call.Owned tag mode) result }
-    ensures seat { B.seat session.new.board ≡ B.seat session.old.board }
-{
-    let of_transaction = session.owner_count(tag, mode, Owner::Transaction);
-    let of_session = session.owner_count(tag, mode, Owner::Session);
-    let said = Said::Owned {
-        of_transaction,
-        of_session,
-    };
-    Answer::Said(name, said)
-}
-
-/// Whether somebody awaits `tag` in a mode that conflicts with `mode`, which `session` has. The answer is for
-/// `name`.
-fn waiters<T: PartTable, B: Board<T>, H: Wait>(
-    rt: &H,
-    session: &mut OwnSession<T, B>,
-    name: Name,
-    tag: Tag,
-    mode: Mode,
-) -> Answer
-    ensures made { IsMade B.seat B.view B.stack session.old session.new name (Call.Waiters tag mode) result }
-    ensures seat { B.seat session.new.board ≡ B.seat session.old.board }
-{
-    of_waiters(name, mode, session.has_waiters(rt, tag, mode))
-}
-
-/// The waits on `tag`, in the order of its wait queue, as `session` sees them. The answer is for `name`.
-fn queue<T: PartTable, B: Board<T>, H: Wait>(
-    rt: &H,
-    session: &mut OwnSession<T, B>,
-    name: Name,
-    tag: Tag,
-) -> Answer
-    ensures made { IsMade B.seat B.view B.stack session.old session.new name (Call.Queue tag) result }
-    ensures seat { B.seat session.new.board ≡ B.seat session.old.board }
-{
-    of_queue(name, session.queue(rt, tag))
-}
-
-/// The sessions in the way of the wait on `tag` of the session `other`, whose number is `number`, as
-/// `session` sees them. The answer is for `name`.
-fn blockers<T: PartTable, B: Board<T>, H: Wait>(
-    rt: &H,
-    session: &mut OwnSession<T, B>,
-    name: Name,
-    other: Name,
-    number: SessionId,
-    tag: Tag,
-) -> Answer
-    ensures made { IsMade B.seat B.view B.stack session.old session.new name (Call.Blockers other number tag) result }
-    ensures seat { B.seat session.new.board ≡ B.seat session.old.board }
-{
-    of_blockers(name, other, session.blockers(rt, tag, number))
-}
-
-/// Has `session` ask the session `other`, whose number is `number`, to cancel its wait. The answer is for
-/// `name`.
-fn ask_cancel<T: PartTable, B: Board<T>>(
-    session: &mut OwnSession<T, B>,
-    name: Name,
-    other: Name,
-    number: SessionId,
-) -> Answer
-    ensures made { IsMade B.seat B.view B.stack session.old session.new name (Call.Cancel other number) result }
-    ensures seat { B.seat session.new.board ≡ B.seat session.old.board }
-{
-    of_cancel(name, other, session.ask_cancel(number))
-}
-
-/// All that is held and awaited, as `session` sees it. The answer is for `name`.
-fn list<T: PartTable, B: Board<T>, H: Wait>(
-    rt: &H,
-    session: &mut OwnSession<T, B>,
-    name: Name,
-) -> Answer
-    ensures made { IsMade B.seat B.view B.stack session.old session.new name Call.List result }
-    ensures seat { B.seat session.new.board ≡ B.seat session.old.board }
-{
-    of_list(name, session.list(rt))
-}
-
-/// What the strong lock counter `index` shows to `session`.
-fn count<T: PartTable, B: Board<T>>(session: &mut OwnSession<T, B>, index: u16) -> Answer
-    requires exists { index < 1024 }
-    ensures made { (shown : ℕ) × (result ≡ Answer.Row (Row.Counter index shown))
-        × Looks B.seat B.view B.stack session.old session.new (SeesCount B.seat B.view B.stack session.old session.new index shown) }
-    ensures seat { B.seat session.new.board ≡ B.seat session.old.board }
-{
-    let shown = session.strong_count(index);
-    Answer::Row(Row::Counter { index, shown })
 }
 
 /// Draws with `pen` who waits for whom: the waits among `rows`, those of the lock table in a listing, with
@@ -306,7 +74,7 @@ pub fn draw<T: PartTable, B: Board<T>, H: Wait>(
     pen: Pen,
     rows: &[TableRow],
 ) -> Result<Picture, Refusal>
-    ensures seat { B.seat session.new.board ≡ B.seat session.old.board }
+    ensures { LooksAround B.seat session.old session.new }
 {
     let mut picture = Picture::new(pen);
     'rows: for row in rows {

@@ -1,7 +1,7 @@
 //! Desks of scripts: they open and close its sessions, and give them their numbers.
 ghost use Rattle.std.specs.Prelude.{◌≡◌, ◌⊎◌, ◌↔◌, ◌≤◌, ◌<◌, ◌+◌, ◌-◌, [], All, true, false, length, IfOk, IfErr, OnOk, OnErr, IsErrOf};
 ghost use Rattle.lock_manager.specs.Crews.{AreOf, SeatsAre};
-ghost use Rattle.scenario.specs.Numbers.{IsFull, IsNumbered, SeesSessions};
+ghost use Rattle.scenario.specs.Numbers.{IsFull, IsKnown, IsNumbered, SeesSessions};
 
 use connections::ManagerName;
 use lock_manager::{Desk, OwnSession, Refusal, SessionPool};
@@ -38,7 +38,7 @@ pub trait ScriptDesk<S> {
     /// Opens a session of `database`, which holds nothing. Refused where no number is left for the session,
     /// or where memory runs out; nothing has changed after a refusal.
     fn open<R: Wait>(&mut self, rt: &R, database: u32) -> Result<S, Refusal>
-        ensures own { IfOk result (λ session. (seat session).table ≡ manager.table) }
+        ensures known { IfOk result (λ session. IsKnown (seat session) manager (issued self.new)) }
         ensures database { IfOk result (λ session. database_of session ≡ database) }
         ensures nothing { IfOk result (λ session. entries session ≡ []) }
         ensures numbered { IfOk result (λ session.
@@ -53,8 +53,7 @@ pub trait ScriptDesk<S> {
 
     /// Closes `session`, one of the desk's open ones. All that the session holds is released.
     fn close<R: Wait>(&mut self, rt: &R, session: S)
-        requires own { (seat session).table ≡ manager.table }
-        requires known { (seat session).number < issued self.old }
+        requires known { IsKnown (seat session) manager (issued self.old) }
         requires some { 0 < live self.old }
         ensures live { live self.new ≡ live self.old - 1 }
         ensures issued { issued self.new ≡ issued self.old };
@@ -64,30 +63,8 @@ pub trait ScriptDesk<S> {
 /// new session.
 pub struct OnceDesk<S, D: Desk<S>, M: ManagerName> {
     pub desk: D,
-    of: PhantomData<(S, M)>,
+    pub of: PhantomData<(S, M)>,
     ghost is: { D.manager desk ≡ M.manager },
-}
-
-impl<S, D: Desk<S>, M: ManagerName> OnceDesk<S, D, M> {
-    /// A desk of a script over `desk`.
-    pub fn new(desk: D) -> Self
-        requires is { D.manager desk ≡ M.manager }
-        ensures desk { result.desk ≡ desk }
-    {
-        OnceDesk {
-            desk,
-            of: PhantomData,
-        }
-    }
-
-    /// The desk that this one stands over.
-    pub fn into_desk(self) -> D
-        ensures is { D.manager result ≡ M.manager }
-        ensures desk { result ≡ self.desk }
-    {
-        let OnceDesk { desk, of: _ } = self;
-        desk
-    }
 }
 
 impl<S, D: Desk<S>, M: ManagerName> ScriptDesk<S> for OnceDesk<S, D, M> {

@@ -12,7 +12,7 @@ use crate::run::Scene;
 use crate::sessions::ScriptState;
 use connections::ManagerName;
 use lock_manager::{Config, Desk, Manager, ManagerDesk, OwnSession, Part, Session, SessionPool};
-use lock_script::{Fault, OpenSessions};
+use lock_script::{Fault, Names, OpenSessions};
 use lock_table::PartTable;
 use shared_rule::{Board, SeatBoard};
 use std::alloc::Global;
@@ -143,8 +143,15 @@ fn drive_once<
     let Ok(sessions) = OpenSessions::new(alloc) else {
         return (listener, None);
     };
-    let desk = OnceDesk::<OwnSession<T, B>, D, M>::new(desk);
-    let state = ScriptState::new(alloc, desk, sessions);
+    let desk = OnceDesk::<OwnSession<T, B>, D, M> {
+        desk,
+        of: PhantomData,
+    };
+    let state = ScriptState {
+        desk,
+        names: Names::new(alloc),
+        sessions,
+    };
     let mut scene = Scene { state, listener };
     let ended = scene.act_out(rt, act);
     let Scene { state, listener } = scene;
@@ -154,7 +161,8 @@ fn drive_once<
         sessions,
     } = state;
     sessions.finish();
-    (listener, Some((desk.into_desk(), ended)))
+    let OnceDesk { desk, of: _ } = desk;
+    (listener, Some((desk, ended)))
 }
 
 /// Has `act` be done as `drive_at` does, where the numbers of closed sessions are given out again.
@@ -190,7 +198,11 @@ fn drive_reusing<
         pool,
         of: PhantomData,
     };
-    let state = ScriptState::new(alloc, desk, sessions);
+    let state = ScriptState {
+        desk,
+        names: Names::new(alloc),
+        sessions,
+    };
     let mut scene = Scene { state, listener };
     let ended = scene.act_out(rt, act);
     let Scene { state, listener } = scene;

@@ -21,7 +21,6 @@ mod waits;
 mod written;
 
 pub use answers::{Answer, Row, Said};
-pub use calls::Call;
 pub use desks::{OnceDesk, ReusingDesk, ScriptDesk};
 pub use driver::{Act, drive};
 pub use json::picture_line;

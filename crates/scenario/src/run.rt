@@ -170,7 +170,7 @@ impl<T: PartTable, B: Board<T>, D: ScriptDesk<OwnSession<T, B>>, L: Listener> Sc
     /// Draws who waits for whom, by the `rows` of a listing that `caller` asked for, if the listener wants
     /// that.
     fn draw<H: Wait>(&mut self, rt: &H, caller: Caller, rows: &[TableRow]) -> Result<(), Fault>
-        ensures drawn { OnOk result (Hears L.hears self.old.listener self.new.listener (λ picture. DrawsPicture
+        ensures drawn { OnOk result (Hears L.hears self.old.listener self.new.listener (λ picture. DrawsPicture B.seat B.view B.stack
             (record { sessions = self.old.state.sessions; names = self.old.state.names }) picture
             (record { sessions = self.new.state.sessions; names = self.new.state.names }))) }
         ensures unheard { IfErr result IsUnheard }

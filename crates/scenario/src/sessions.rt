@@ -4,33 +4,31 @@ ghost use Rattle.std.specs.Prelude.{◌≡◌, ◌⊎◌, ◌≤◌, ◌<◌, �
 ghost use Rattle.lock_manager.specs.Crews.{SeatsAre};
 ghost use Rattle.lock_script.specs.Command.{Addresses, NamesCounter, NamesFree};
 ghost use Rattle.lock_script.specs.Objects.{name_given, tag_called};
-ghost use Rattle.scenario.specs.Answered.{AcquiresAt, CallsAt, ClosesAt, PollsAt, TellsBlockedAt, WaitsAt};
+ghost use Rattle.scenario.specs.Answered.{AcquiresAt, CallsAt, ClosesAt, LooksAroundAt, OwnsAt, PollsAt, TellsBlockedAt, WaitsAt};
 ghost use Rattle.scenario.specs.Answers.{Answers, IsNumberAt, IsOtherOf, NamesObject, Opens, OpensNone};
-ghost use Rattle.lock_manager.specs.Sessions.{SessionView};
-ghost use Rattle.lock_script.specs.Lending.{with_session};
-ghost use Rattle.scenario.specs.Calls.{IsActionOf, ShowsCounter};
+ghost use Rattle.scenario.specs.Calls.{IsActionOf, IsScripted};
 ghost use Rattle.modes_core.specs.Sessions.{usual_sessions};
 ghost use Rattle.scenario.specs.Numbers.{IsKnown};
 
 use crate::answers::{Answer, Row, Said};
-use crate::calls::{Call, draw, make};
+use crate::calls::{draw, make};
 use crate::desks::ScriptDesk;
 use crate::picture::Picture;
 use crate::style::Pen;
 use crate::waits::{begin, cancel, poll_wait, tell_blocked};
 use lock_manager::{
-    Blocked, OwnSession, OwnWaiting, Owner, QueueRow, Refusal, SessionId, TableRow, Tag,
+    Blocked, Call, OwnSession, OwnWaiting, Owner, QueueRow, Refusal, SessionId, TableRow, Tag,
 };
 use lock_script::{
     Caller, Command, Name, Named, NamedObject, Names, ObjectName, OpenSessions, Place, Target,
 };
 use lock_table::PartTable;
 use shared_rule::Board;
-use std::alloc::{AllocError, Global};
+use std::alloc::AllocError;
 use std::sync::Wait;
 
 /// What a command of a script has a session or the script do.
-#[derive(Clone, Copy, Debug, PartialEq, Eq)]
+#[derive(Clone, Copy)]
 pub enum Action {
     /// A session of this name and database is opened.
     Open(Name, u32),
@@ -40,10 +38,19 @@ pub enum Action {
     Close(Caller),
     /// A session asks for a lock for an owner, and waits for it if need be.
     Lock(Target, Owner),
-    /// A session makes a call that answers at once.
-    Make(Caller, Call),
+    /// A session makes a call that answers at once, about the session of this name: another one, or itself.
+    Make(Caller, Name, Call),
+    /// A session says how often each owner of it has an object in a mode.
+    Owned(Target),
     /// The hash of an object is shown.
     Hash(Tag),
+}
+
+/// What `caller` does who makes `call` about no other session.
+fn of_caller(caller: Caller, call: Call) -> Action
+    ensures { result ≡ Action.Make caller caller.name call }
+{
+    Action::Make(caller, caller.name, call)
 }
 
 /// What `command` comes to, where the other session that it names, if it names one, has the number `other`.
@@ -57,29 +64,30 @@ pub fn action_of(command: Command, other: SessionId) -> Action
         Command::Lock(target, owner) => Action::Lock(target, owner),
         Command::Hash(tag) => Action::Hash(tag),
         Command::Try(target, owner) => {
-            Action::Make(target.caller, Call::Try(target.tag, target.mode, owner))
+            of_caller(target.caller, Call::TryLock(target.tag, target.mode, owner))
         }
         Command::Fast(target, owner) => {
-            Action::Make(target.caller, Call::Fast(target.tag, target.mode, owner))
+            of_caller(target.caller, Call::TryFast(target.tag, target.mode, owner))
         }
         Command::Unlock(target, owner) => {
-            Action::Make(target.caller, Call::Unlock(target.tag, target.mode, owner))
+            of_caller(target.caller, Call::Unlock(target.tag, target.mode, owner))
         }
-        Command::UnlockAll(caller) => Action::Make(caller, Call::UnlockAll),
-        Command::Commit(caller) => Action::Make(caller, Call::Commit),
-        Command::Abort(caller) => Action::Make(caller, Call::Abort),
-        Command::Begin(caller) => Action::Make(caller, Call::Begin),
-        Command::SubCommit(caller) => Action::Make(caller, Call::SubCommit),
-        Command::SubAbort(caller) => Action::Make(caller, Call::SubAbort),
-        Command::Owned(target) => Action::Make(target.caller, Call::Owned(target.tag, target.mode)),
-        Command::Waiters(target) => {
-            Action::Make(target.caller, Call::Waiters(target.tag, target.mode))
-        }
-        Command::Queue(caller, tag) => Action::Make(caller, Call::Queue(tag)),
-        Command::Blockers(by, it, tag) => Action::Make(by, Call::Blockers(it.name, other, tag)),
-        Command::Cancel(by, it) => Action::Make(by, Call::Cancel(it.name, other)),
-        Command::List(caller) => Action::Make(caller, Call::List),
-        Command::Count(caller, index) => Action::Make(caller, Call::Count(index)),
+        Command::UnlockAll(caller) => of_caller(caller, Call::UnlockAll),
+        Command::Commit(caller) => of_caller(caller, Call::Commit),
+        Command::Abort(caller) => of_caller(caller, Call::Abort),
+        Command::Begin(caller) => of_caller(caller, Call::BeginNested),
+        Command::SubCommit(caller) => of_caller(caller, Call::CommitNested),
+        Command::SubAbort(caller) => of_caller(caller, Call::AbortNested),
+        Command::Owned(target) => Action::Owned(target),
+        Command::Waiters(target) => of_caller(
+            target.caller,
+            Call::HasWaiters(target.tag, target.mode),
+        ),
+        Command::Queue(caller, tag) => of_caller(caller, Call::Queue(tag)),
+        Command::Blockers(by, it, tag) => Action::Make(by, it.name, Call::Blockers(tag, other)),
+        Command::Cancel(by, it) => Action::Make(by, it.name, Call::AskCancel(other)),
+        Command::List(caller) => of_caller(caller, Call::List),
+        Command::Count(caller, index) => of_caller(caller, Call::StrongCount(index)),
     }
 }
 
@@ -104,30 +112,6 @@ pub struct ScriptState<T: PartTable, B: Board<T>, D: ScriptDesk<OwnSession<T, B>
 impl<T: PartTable, B: Board<T>, D: ScriptDesk<OwnSession<T, B>>> ScriptState<T, B, D> {
     ghost use Rattle.lock_script.specs.Sessions.{IsThere, MayAct};
 
-    /// The state of a script that acts on `desk`, of which no session was opened yet, with `sessions`, of
-    /// which none is open.
-    pub fn new(
-        alloc: Global,
-        desk: D,
-        sessions: OpenSessions<OwnSession<T, B>, OwnWaiting<T, B>>,
-    ) -> Self
-        requires seats { SeatsAre B.seat D.seat }
-        requires few { D.manager.limit ≤ usual_sessions }
-        requires none_issued { D.issued desk ≡ 0 }
-        requires none_live { D.live desk ≡ 0 }
-        requires none_waits { sessions.waiting ≡ [] }
-        requires none_open { sessions.resting ≡ [] }
-        ensures desk { result.desk ≡ desk }
-        ensures sessions { result.sessions ≡ sessions }
-        ensures unnamed { result.names ≡ (record { sessions = []; objects = [] }) }
-    {
-        ScriptState {
-            desk,
-            names: Names::new(alloc),
-            sessions,
-        }
-    }
-
     /// Has the session that `command` names do what `command` says, and answers the command.
     pub fn answer<H: Wait>(&mut self, rt: &H, command: Command) -> Answer
         requires addressed { Addresses self.old.sessions command }
@@ -143,7 +127,8 @@ impl<T: PartTable, B: Board<T>, D: ScriptDesk<OwnSession<T, B>>> ScriptState<T, 
             Action::Name(name, tag) => self.name_object(name, tag),
             Action::Close(caller) => self.close(rt, caller),
             Action::Lock(target, owner) => self.lock(rt, target, owner),
-            Action::Make(caller, call) => self.call(rt, caller, call),
+            Action::Make(caller, other, call) => self.call(rt, caller, other, call),
+            Action::Owned(target) => self.owned(target),
             Action::Hash(tag) => Answer::Row(Row::Hash(tag)),
         }
     }
@@ -229,15 +214,32 @@ impl<T: PartTable, B: Board<T>, D: ScriptDesk<OwnSession<T, B>>> ScriptState<T, 
         }
     }
 
-    /// Has the session `caller` make `call`, which is answered at once.
-    fn call<H: Wait>(&mut self, rt: &H, caller: Caller, call: Call) -> Answer
+    /// Has the session `caller` make `call`, which is answered at once, and which may be about the session
+    /// `other`.
+    fn call<H: Wait>(&mut self, rt: &H, caller: Caller, other: Name, call: Call) -> Answer
         requires place { MayAct self.old.sessions caller.place }
-        requires counter { ShowsCounter call }
-        ensures called { CallsAt B.seat B.view B.stack self.old.sessions self.new.sessions caller call result }
+        requires scripted { IsScripted call }
+        ensures called { CallsAt B.seat B.view B.stack self.old.sessions self.new.sessions caller other call result }
         ensures names { self.new.names ≡ self.old.names }
     {
         let session = self.sessions.resting.session_mut(caller.place);
-        make(rt, session, caller.name, call)
+        make(rt, session, caller.name, other, &call)
+    }
+
+    /// How often each owner of the session of `target` has the object of `target` in its mode: the innermost
+    /// level of the session's transaction, and the session itself.
+    fn owned(&self, target: Target) -> Answer
+        requires { MayAct self.now.sessions target.caller.place }
+        ensures { OwnsAt B.seat B.view B.stack self.now.sessions self.now.sessions target result }
+    {
+        let session = &self.sessions.resting.at(target.caller.place).session;
+        Answer::Said(
+            target.caller.name,
+            Said::Owned {
+                of_transaction: session.owner_count(target.tag, target.mode, Owner::Transaction),
+                of_session: session.owner_count(target.tag, target.mode, Owner::Session),
+            },
+        )
     }
 
     /// The picture of who waits for whom, by the `rows` of the lock table in a listing, as the session at
@@ -250,8 +252,7 @@ impl<T: PartTable, B: Board<T>, D: ScriptDesk<OwnSession<T, B>>> ScriptState<T, 
         rows: &[TableRow],
     ) -> Result<Picture, Refusal>
         requires { MayAct self.old.sessions place }
-        ensures looked { (after : SessionView B) × (self.new.sessions.resting ≡ with_session self.old.sessions.resting place after) }
-        ensures waiting { self.new.sessions.waiting ≡ self.old.sessions.waiting }
+        ensures looked { LooksAroundAt B.seat B.view B.stack self.old.sessions self.new.sessions place }
         ensures names { self.new.names ≡ self.old.names }
     {
         let session = self.sessions.resting.session_mut(place);

@@ -1,5 +1,6 @@
 //! The calls of a session that has to wait, or that waits, over any board, and what it is told.
-ghost use Rattle.std.specs.Prelude.{◌≡◌, IfOk, IfErr};
+ghost use Rattle.std.specs.Prelude.{IfOk, IfErr};
+ghost use Rattle.lock_manager.specs.WaitingSessions.{WaitsOn};
 ghost use Rattle.scenario.specs.Waits.{GivesUp, GoesOn, IsBegun, IsQueued, LooksOn, TellsBlocked};
 
 use crate::answers::Said;
@@ -22,8 +23,6 @@ pub fn begin<T: PartTable, B: Board<T>, H: Wait>(
 ) -> Result<(OwnSession<T, B>, Said), OwnWaiting<T, B>>
     ensures begun { IfOk result (λ it. IsBegun B.seat B.view B.stack session tag mode owner it.1 it.0) }
     ensures queued { IfErr result (IsQueued B.seat B.view B.stack session tag mode owner) }
-    ensures rests { IfOk result (λ it. B.seat it.0.board ≡ B.seat session.board) }
-    ensures waits { IfErr result (λ waiting. B.seat waiting.board ≡ B.seat session.board) }
 {
     match session.start(rt, tag, mode, owner) {
         Started::Granted(session) => Ok((session, Said::Acquired(Acquired::Granted))),
@@ -41,8 +40,6 @@ pub fn poll_wait<T: PartTable, B: Board<T>, H: Wait>(
 ) -> Result<(OwnSession<T, B>, Said), OwnWaiting<T, B>>
     ensures goes_on { IfOk result (λ seen. GoesOn B.seat B.view B.stack waiting seen.1 seen.0) }
     ensures looks_on { IfErr result (LooksOn B.seat B.view B.stack waiting) }
-    ensures rests { IfOk result (λ seen. B.seat seen.0.board ≡ B.seat waiting.board) }
-    ensures waits { IfErr result (λ still. B.seat still.board ≡ B.seat waiting.board) }
 {
     match waiting.poll() {
         Polled::Still(waiting) => Err(waiting),
@@ -61,7 +58,7 @@ pub fn tell_blocked<T: PartTable, B: Board<T>, H: Wait>(
     waiting: &mut OwnWaiting<T, B>,
 ) -> Result<Blocked, Refusal>
     ensures told { IfOk result (TellsBlocked B.seat B.view B.stack waiting.old waiting.new) }
-    ensures seat { B.seat waiting.new.board ≡ B.seat waiting.old.board }
+    ensures waits { WaitsOn B.seat B.view B.stack waiting.old waiting.new }
 {
     let blockers = waiting.blockers(rt)?;
     Ok(Blocked {
@@ -77,8 +74,7 @@ pub fn cancel<T: PartTable, B: Board<T>, H: Wait>(
     rt: &H,
     waiting: OwnWaiting<T, B>,
 ) -> (OwnSession<T, B>, bool)
-    ensures gave_up { GivesUp B.seat B.view B.stack waiting result.1 result.0 }
-    ensures seat { B.seat result.0.board ≡ B.seat waiting.board }
+    ensures { GivesUp B.seat B.view B.stack waiting result.1 result.0 }
 {
     match waiting.cancel(rt) {
         Cancelled::Removed(session) => (session, false),

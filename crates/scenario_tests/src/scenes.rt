@@ -6,12 +6,12 @@ ghost use Rattle.modes_core.specs.Sessions.{usual_sessions};
 use crate::scripts::ALL_SESSIONS;
 use connections::ManagerName;
 use lock_manager::{Desk, Manager, ManagerDesk, OwnSession};
-use lock_script::OpenSessions;
+use lock_script::{Names, OpenSessions};
 use lock_table::PartTable;
 use scenario::{Manner, OnceDesk, Output, Scene, Script, ScriptState};
 use shared_rule::Board;
 use std::alloc::Global;
-use std::marker::Brand;
+use std::marker::{Brand, PhantomData};
 use std::process::Abort;
 use std::sync::Wait;
 use std::test::Fail;
@@ -68,8 +68,15 @@ fn play_in_turn<
     requires few { M.manager.limit ≤ usual_sessions }
 {
     let sessions = OpenSessions::new(alloc)?;
-    let desk = OnceDesk::<OwnSession<T, B>, D, M>::new(desk);
-    let state = ScriptState::new(alloc, desk, sessions);
+    let desk = OnceDesk::<OwnSession<T, B>, D, M> {
+        desk,
+        of: PhantomData,
+    };
+    let state = ScriptState {
+        desk,
+        names: Names::new(alloc),
+        sessions,
+    };
     let listener = Output::new(output);
     let mut scene = Scene { state, listener };
     'turns: for turn in &IN_TURN {
@@ -86,7 +93,7 @@ fn play_in_turn<
         sessions,
     } = state;
     sessions.finish();
-    let _ = desk.into_desk();
+    let OnceDesk { desk: _, of: _ } = desk;
     Ok(())
 }
 

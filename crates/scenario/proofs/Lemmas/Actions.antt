@@ -8,7 +8,7 @@ use Rattle.lock_script.specs.Command.{Addresses, NamesCounter}
 use Rattle.lock_script.specs.Sessions.{MayAct}
 use Rattle.scenario.specs.declared.sessions.Action.{Action}
 use Rattle.scenario.specs.declared.sessions.Action.TheVariants as action
-use Rattle.scenario.specs.Calls.{IsActionOf, ShowsCounter}
+use Rattle.scenario.specs.Calls.{IsActionOf, IsScripted}
 
 module _ {S W : Type 0} where
   -- The session that does it stands among those that don't wait.
@@ -17,7 +17,8 @@ module _ {S W : Type 0} where
   MayDo sessions (action.Name name tag) = ⊤
   MayDo sessions (action.Close caller) = MayAct sessions caller.place
   MayDo sessions (action.Lock target owner) = MayAct sessions target.caller.place
-  MayDo sessions (action.Make caller call) = MayAct sessions caller.place × ShowsCounter call
+  MayDo sessions (action.Make caller other call) = MayAct sessions caller.place × IsScripted call
+  MayDo sessions (action.Owned target) = MayAct sessions target.caller.place
   MayDo sessions (action.Hash tag) = ⊤
 
   pub may_do : (sessions : OpenSessions S W) (it : Command) (number : ℕ) (done : Action) → IsActionOf it number done → Addresses sessions it → NamesCounter it → MayDo sessions done
@@ -35,7 +36,7 @@ module _ {S W : Type 0} where
   may_do sessions (command.Begin caller) number done is at counter = subst (MayDo sessions) (sym is) (at, tt)
   may_do sessions (command.SubCommit caller) number done is at counter = subst (MayDo sessions) (sym is) (at, tt)
   may_do sessions (command.SubAbort caller) number done is at counter = subst (MayDo sessions) (sym is) (at, tt)
-  may_do sessions (command.Owned target) number done is at counter = subst (MayDo sessions) (sym is) (at, tt)
+  may_do sessions (command.Owned target) number done is at counter = subst (MayDo sessions) (sym is) at
   may_do sessions (command.Waiters target) number done is at counter = subst (MayDo sessions) (sym is) (at, tt)
   may_do sessions (command.Queue caller tag) number done is at counter = subst (MayDo sessions) (sym is) (at, tt)
   may_do sessions (command.List caller) number done is at counter = subst (MayDo sessions) (sym is) (at, tt)

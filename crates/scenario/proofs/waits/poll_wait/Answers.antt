@@ -9,7 +9,7 @@ returns-in_default-true-clause-goes_on g c =
       asked = c.in-CancelAsked.waiting;
       polled = c.in-CancelAsked.ensures.polled;
       still = c.in-CancelAsked.ensures.waiting;
-      gave_up = subst (λ (granted : Bool). GivesUp g.B.Board.seat g.B.Board.view g.B.Board.stack c.in-CancelAsked.waiting granted c.cancel.result.0) was c.cancel.ensures.gave_up;
+      gave_up = subst (λ (granted : Bool). GivesUp g.B.Board.seat g.B.Board.view g.B.Board.stack c.in-CancelAsked.waiting granted c.cancel.result.0) was c.cancel.ensures;
     })
 
 pub returns-in_default-false-clause-goes_on : goal.returns-in_default-false-clause-goes_on
@@ -19,5 +19,5 @@ returns-in_default-false-clause-goes_on g c =
       asked = c.in-CancelAsked.waiting;
       polled = c.in-CancelAsked.ensures.polled;
       still = c.in-CancelAsked.ensures.waiting;
-      gave_up = subst (λ (granted : Bool). GivesUp g.B.Board.seat g.B.Board.view g.B.Board.stack c.in-CancelAsked.waiting granted c.cancel.result.0) was c.cancel.ensures.gave_up;
+      gave_up = subst (λ (granted : Bool). GivesUp g.B.Board.seat g.B.Board.view g.B.Board.stack c.in-CancelAsked.waiting granted c.cancel.result.0) was c.cancel.ensures;
     }

@@ -1,6 +1,7 @@
 use Rattle.std.proofs.Common.{◌≡◌, ◌<◌, ◌∙◌, ap, arith, inr, refl}
 use Rattle.shared_rule.specs.Boards.{Seated}
 use Rattle.scenario.proofs.Lemmas.Lent.{left-so, lent-so, one-less}
+use Rattle.scenario.proofs.Lemmas.Numbers.{kept-known}
 use Rattle.scenario.proofs.desks.ReusingDeskScriptDeskOwnSession.open.Goals as goal
 
 pub invariant_of-self : goal.invariant_of-self
@@ -21,12 +22,14 @@ invariant_of-self g c =
       room = rw (ap (λ pool. pool.lives) lent.pool) c.args.self.now.room;
     }
 
-pub returns-in-Some-clause-own : goal.returns-in-Some-clause-own
-returns-in-Some-clause-own g c =
+pub returns-in-Some-clause-known : goal.returns-in-Some-clause-known
+returns-in-Some-clause-known g c =
     let lent = c.in-Some.ensures.lent in
-    let its = lent-so (λ session. (g.B.Board.seat session.board).table ≡ g.M.ManagerName.manager.table)
+    let own = lent-so (λ session. (g.B.Board.seat session.board).table ≡ g.M.ManagerName.manager.table)
     c.args.self.now.pool.free lent.place lent.lent lent.there c.args.self.now.own in
-    ap (λ (seat : Seated). seat.table) (c.args.self.now.seats c.in-Some.session ∙ lent.next.seat_) ∙ its
+    let number = lent-so (λ session. (g.B.Board.seat session.board).number < g.D.Desk.issued c.args.self.now.desk)
+    c.args.self.now.pool.free lent.place lent.lent lent.there c.args.self.now.known in
+    kept-known _ _ _ _ (c.args.self.now.seats c.in-Some.session ∙ lent.next.seat_) (record { table = own; number = number })
 
 pub returns-in-Some-clause-numbered : goal.returns-in-Some-clause-numbered
 returns-in-Some-clause-numbered g c =

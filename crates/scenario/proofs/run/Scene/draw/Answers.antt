@@ -8,7 +8,7 @@ pub returns-in-Ok-clause-drawn : goal.returns-in-Ok-clause-drawn
 returns-in-Ok-clause-drawn g c = on_ok_weaker c.picture-in-Ok.result
     (λ heard. (
       Drawn ∷ [],
-      inr (c.args.caller.place, c.picture.ensures.looked.0, c.picture.ensures.looked.1, c.picture.ensures.waiting, c.picture.ensures.names, inl refl),
+      inr (c.args.caller.place, c.picture.ensures.looked, c.picture.ensures.names, inl refl),
       (c.picture-in-Ok.new.self, heard, refl),
     ))
     c.picture-in-Ok.ensures.heard
@@ -19,9 +19,7 @@ returns-in-Err-clause-drawn g c = on_ok_weaker c.said.result
       Told c.picture.new.self.names c.args.caller.name (said.Refused c.in-Err.refusal) ∷ [],
       inr (
         c.args.caller.place,
-        c.picture.ensures.looked.0,
-        c.picture.ensures.looked.1,
-        c.picture.ensures.waiting,
+        c.picture.ensures.looked,
         c.picture.ensures.names,
         inr (c.args.caller.name, c.in-Err.refusal, refl),
       ),

@@ -19,7 +19,12 @@ pub call-requires : goal.call-requires
 call-requires g c =
     let may = subst (λ done. MayDo c.args.self.now.sessions done) c.in-Make.is
     (may_do c.args.self.now.sessions c.args.command c.other_of-other.result c.action_of.result c.action_of.ensures c.requires.addressed c.requires.counter) in
-    record { place = may.0; counter = may.1 }
+    record { place = may.0; scripted = may.1 }
+
+pub owned-requires : goal.owned-requires
+owned-requires g c =
+    subst (λ done. MayDo c.args.self.now.sessions done) c.in-Owned.is
+    (may_do c.args.self.now.sessions c.args.command c.other_of-other.result c.action_of.result c.action_of.ensures c.requires.addressed c.requires.counter)
 
 pub returns-in-Open : goal.returns-in-Open
 returns-in-Open g c = record {
@@ -90,5 +95,17 @@ returns-in-Hash g c = record {
         action = _;
         which = subst (λ done. IsActionOf c.args.command c.other_of-other.result done) c.in-Hash.is c.action_of.ensures;
         done = (refl, refl);
+      };
+}
+
+pub returns-in-Owned : goal.returns-in-Owned
+returns-in-Owned g c = record {
+  answered =
+      record {
+        number = c.other_of-other.result;
+        other = c.other_of-other.ensures.number;
+        action = _;
+        which = subst (λ done. IsActionOf c.args.command c.other_of-other.result done) c.in-Owned.is c.action_of.ensures;
+        done = (c.owned.ensures, refl);
       };
 }

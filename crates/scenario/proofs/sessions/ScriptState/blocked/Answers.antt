@@ -16,7 +16,7 @@ pub invariant_of-self-clause-waiting : goal.invariant_of-self-clause-waiting
 invariant_of-self-clause-waiting g c =
     All-called c.args.self.now.sessions.waiting c.args.place c.session_mut-waiting.result.now c.tell_blocked.new.waiting c.requires c.session_mut-waiting.ensures.value
     (λ waiting. IsKnown (g.B.Board.seat waiting.board) g.D.ScriptDesk.manager (g.D.ScriptDesk.issued c.args.self.now.desk)) c.args.self.now.waiting
-    (λ h. kept-known _ _ _ _ c.tell_blocked.ensures.seat h)
+    (λ h. kept-known _ _ _ _ c.tell_blocked.ensures.waits.seat_ h)
 
 pub returns-clause-told : goal.returns-clause-told
 returns-clause-told g c = IfOk-weaker c.tell_blocked.result

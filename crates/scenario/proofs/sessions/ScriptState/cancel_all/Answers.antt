@@ -13,7 +13,7 @@ invariant_of-self-clause-counted g c =
 pub invariant_of-self-clause-resting : goal.invariant_of-self-clause-resting
 invariant_of-self-clause-resting g c =
     All-put c.waits.self.sessions.resting c.put.new.self (record { name = c.in-Some.first.name; session = c.cancel-session.result.0 }) c.put.ensures (λ one. IsKnown (g.B.Board.seat one.session.board) g.D.ScriptDesk.manager (g.D.ScriptDesk.issued c.waits.self.desk)) c.waits.self.resting
-    (kept-known _ _ _ _ c.cancel-session.ensures.seat
+    (kept-known _ _ _ _ c.cancel-session.ensures.same.seat_
     (All-first c.waits.self.sessions.waiting c.take_first.new.self c.in-Some.first c.in-Some.ensures.first (λ one. IsKnown (g.B.Board.seat one.session.board) g.D.ScriptDesk.manager (g.D.ScriptDesk.issued c.waits.self.desk)) c.waits.self.waiting))
 
 pub invariant_of-self-clause-waiting : goal.invariant_of-self-clause-waiting

@@ -10,7 +10,7 @@ close-requires g c =
     (taken (λ one. IsKnown (g.B.Board.seat one.session.board) g.D.ScriptDesk.manager (g.D.ScriptDesk.issued c.args.self.now.desk)) c.args.self.now.sessions.resting c.args.caller.place
     c.take-session.result c.requires.place c.args.self.now.resting c.take-session.ensures.taken) in
     let left = length-left c.args.self.now.sessions.resting c.take-session.new.self c.args.caller.place c.requires.place c.take-session.ensures.left in
-    record { own = known.table; known = known.number; some = omega (arith, left, c.args.self.now.counted) }
+    record { known = known; some = omega (arith, left, c.args.self.now.counted) }
 
 pub invariant_of-self-clause-counted : goal.invariant_of-self-clause-counted
 invariant_of-self-clause-counted g c =

@@ -10,7 +10,7 @@ close-requires g c =
     (All-first c.sessions.self.sessions.resting c.take_first.new.self c.in-Some.first c.in-Some.ensures.first
     (λ one. IsKnown (g.B.Board.seat one.session.board) g.D.ScriptDesk.manager (g.D.ScriptDesk.issued c.sessions.self.desk)) c.sessions.self.resting) in
     let left = length-rest c.sessions.self.sessions.resting c.take_first.new.self c.in-Some.first c.in-Some.ensures.first in
-    record { own = known.table; known = known.number; some = omega (arith, left, c.sessions.self.counted) }
+    record { known = known; some = omega (arith, left, c.sessions.self.counted) }
 
 pub invariant_of-self-clause-counted : goal.invariant_of-self-clause-counted
 invariant_of-self-clause-counted g c =

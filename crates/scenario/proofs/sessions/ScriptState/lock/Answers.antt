@@ -18,7 +18,7 @@ pub invariant_of-self-clause-resting : goal.invariant_of-self-clause-resting
 invariant_of-self-clause-resting g c =
     All-put_back c.args.self.now.sessions.resting c.take-name.new.self c.put.new.self c.args.target.caller.place c.take-name.result
     (record { name = c.take-name.result.name; session = c.in-Ok.session }) c.requires c.take-name.ensures.taken c.take-name.ensures.left c.put.ensures
-    (λ one. IsKnown (g.B.Board.seat one.session.board) g.D.ScriptDesk.manager (g.D.ScriptDesk.issued c.args.self.now.desk)) c.args.self.now.resting (λ h. kept-known _ _ _ _ c.in-Ok.ensures.rests h)
+    (λ one. IsKnown (g.B.Board.seat one.session.board) g.D.ScriptDesk.manager (g.D.ScriptDesk.issued c.args.self.now.desk)) c.args.self.now.resting (λ h. kept-known _ _ _ _ c.in-Ok.ensures.begun.same.seat_ h)
 
 pub invariant_of-self-in-Err-clause-counted : goal.invariant_of-self-in-Err-clause-counted
 invariant_of-self-in-Err-clause-counted g c =
@@ -34,7 +34,7 @@ pub invariant_of-self-in-Err-clause-waiting : goal.invariant_of-self-in-Err-clau
 invariant_of-self-in-Err-clause-waiting g c =
     All-put c.args.self.now.sessions.waiting c.put-in-Err.new.self (record { name = c.take-name.result.name; session = c.in-Err.waiting }) c.put-in-Err.ensures
     (λ one. IsKnown (g.B.Board.seat one.session.board) g.D.ScriptDesk.manager (g.D.ScriptDesk.issued c.args.self.now.desk)) c.args.self.now.waiting
-    (kept-known _ _ _ _ c.in-Err.ensures.waits
+    (kept-known _ _ _ _ c.in-Err.ensures.queued.begun.seat_
     (taken (λ one. IsKnown (g.B.Board.seat one.session.board) g.D.ScriptDesk.manager (g.D.ScriptDesk.issued c.args.self.now.desk)) c.args.self.now.sessions.resting c.args.target.caller.place c.take-name.result c.requires c.args.self.now.resting c.take-name.ensures.taken))
 
 pub put-requires : goal.put-requires

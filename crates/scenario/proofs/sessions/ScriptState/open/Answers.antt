@@ -5,7 +5,7 @@ use Rattle.shared_rule.specs.Boards.{Seated}
 use Rattle.scenario.specs.Numbers.{IsKnown, IsNamed, IsNumbered}
 use Rattle.scenario.specs.declared.answers.Answer.TheVariants as answer
 use Rattle.scenario.specs.declared.answers.Said.TheVariants as said
-use Rattle.scenario.proofs.Lemmas.Numbers.{issued-grows, known-later, length-named, named-so, number-within, number-within_names, within-limit}
+use Rattle.scenario.proofs.Lemmas.Numbers.{issued-grows, kept-known, known-later, length-named, named-so, number-within, number-within_names, within-limit}
 use Rattle.scenario.proofs.sessions.ScriptState.open.Goals as goal
 
 pub put-requires : goal.put-requires
@@ -47,17 +47,13 @@ invariant_of-self-clause-counted g c =
 
 pub invariant_of-self-clause-resting : goal.invariant_of-self-clause-resting
 invariant_of-self-clause-resting g c =
-    let seat = sym (c.args.self.now.seats c.in-Ok.opened) in
-    let table = ap (λ (seat : Seated). seat.table) seat ∙ c.in-Ok.ensures.own in
-    let below = number-within g.D.ScriptDesk.again _ _ _ _ c.in-Ok.ensures.numbered in
-    let number = ap (λ (seat : Seated). seat.number) seat in
     All-put c.args.self.now.sessions.resting c.put-in-Ok.new.self (record { name = c.args.name; session = c.in-Ok.opened }) c.put-in-Ok.ensures
     (λ one. IsKnown (g.B.Board.seat one.session.board) g.D.ScriptDesk.manager (g.D.ScriptDesk.issued c.open.new.self))
     (All-weaker (λ one. IsKnown (g.B.Board.seat one.session.board) g.D.ScriptDesk.manager (g.D.ScriptDesk.issued c.args.self.now.desk))
     (λ one. IsKnown (g.B.Board.seat one.session.board) g.D.ScriptDesk.manager (g.D.ScriptDesk.issued c.open.new.self))
     (λ one known. known-later _ _ _ _ (issued-grows g.D.ScriptDesk.again _ _ _ _ c.in-Ok.ensures.numbered) known)
     c.args.self.now.sessions.resting c.args.self.now.resting)
-    (record { table = table; number = omega (arith, below, number) })
+    (kept-known _ _ _ _ (sym (c.args.self.now.seats c.in-Ok.opened)) c.in-Ok.ensures.known)
 
 pub invariant_of-self-clause-waiting : goal.invariant_of-self-clause-waiting
 invariant_of-self-clause-waiting g c =

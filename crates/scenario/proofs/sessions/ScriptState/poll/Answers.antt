@@ -4,6 +4,7 @@ use Rattle.lock_script.proofs.Lemmas.Sessions.{All-left, length-left, All-put, l
 use Rattle.scenario.specs.Waits.{GoesOn, LooksOn}
 use Rattle.scenario.specs.Numbers.{IsKnown}
 use Rattle.scenario.proofs.Lemmas.Numbers.{kept-known}
+use Rattle.scenario.proofs.Lemmas.Waits.{goes_on-seat}
 use Rattle.scenario.proofs.sessions.ScriptState.poll.Goals as goal
 
 pub invariant_of-self-clause-counted : goal.invariant_of-self-clause-counted
@@ -16,7 +17,7 @@ pub invariant_of-self-clause-resting : goal.invariant_of-self-clause-resting
 invariant_of-self-clause-resting g c =
     All-put c.args.self.now.sessions.resting c.put.new.self (record { name = c.take-name.result.name; session = c.in-Ok.session }) c.put.ensures
     (λ one. IsKnown (g.B.Board.seat one.session.board) g.D.ScriptDesk.manager (g.D.ScriptDesk.issued c.args.self.now.desk)) c.args.self.now.resting
-    (kept-known _ _ _ _ c.in-Ok.ensures.rests
+    (kept-known _ _ _ _ (goes_on-seat _ _ _ _ _ _ c.in-Ok.ensures.goes_on)
     (taken (λ one. IsKnown (g.B.Board.seat one.session.board) g.D.ScriptDesk.manager (g.D.ScriptDesk.issued c.args.self.now.desk)) c.args.self.now.sessions.waiting c.args.place c.take-name.result c.requires c.args.self.now.waiting c.take-name.ensures.taken))
 
 pub invariant_of-self-clause-waiting : goal.invariant_of-self-clause-waiting
@@ -47,7 +48,7 @@ invariant_of-self-in-Err-clause-waiting g c =
     rw there
     (All-with_session c.args.self.now.sessions.waiting c.args.place c.in-Err.waiting
     (λ session. IsKnown (g.B.Board.seat session.board) g.D.ScriptDesk.manager (g.D.ScriptDesk.issued c.args.self.now.desk)) c.args.self.now.waiting
-    (kept-known _ _ _ _ c.in-Err.ensures.waits
+    (kept-known _ _ _ _ c.in-Err.ensures.looks_on.same.seat_
     (taken (λ one. IsKnown (g.B.Board.seat one.session.board) g.D.ScriptDesk.manager (g.D.ScriptDesk.issued c.args.self.now.desk)) c.args.self.now.sessions.waiting c.args.place c.take-name.result c.requires
     c.args.self.now.waiting c.take-name.ensures.taken)))
 
