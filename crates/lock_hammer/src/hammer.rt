@@ -8,7 +8,7 @@ ghost use Rattle.modes_core.specs.Sessions.{usual_sessions};
 
 use crate::progress::{Progress, Unwatched};
 use crate::size::Hammer;
-use crate::workers::{DATABASE, Gate, Reports, Task, all_work};
+use crate::workers::{DATABASE, Gate, Reports, play};
 use connections::{Connection, DeskOf, ManagerName};
 use lock_manager::{Audit, Board, Config, Desk, Final, Manager, ManagerDesk, OwnSession, Part};
 use lock_script::Fault;
@@ -64,39 +64,20 @@ pub fn run_watched_hammer<
     };
     let mut slot = Some(ManagerDesk::new(&manager, opener));
     let reports = Reports::new(progress);
-    let hammered = hammer_over(rt, alloc, gate, &reports, &mut slot, &mut writer, size);
+    let hammered = hammer_at::<_, _, Brand, _, _, _, _>(
+        rt,
+        alloc,
+        gate,
+        &reports,
+        &mut slot,
+        &mut writer,
+        size,
+    );
     let Some(desk) = slot else { unreachable!() };
     let opener = desk.into_opener();
     let last = manager.finish(opener);
     hammered?;
     print_final(&mut writer, last)
-}
-
-/// Has a hammer of `size` play over the desk in `slot`, as `hammer` does. This function picks the manager
-/// that the types of connections name.
-fn hammer_over<
-    B: Board<Part> + Send,
-    D: Desk<OwnSession<Part, B>> + Drop,
-    G: Gate + Sync,
-    H: Threads + Wait + Sync,
-    P: Progress + Sync,
-    W: Write,
->(
-    rt: &H,
-    alloc: Global,
-    gate: &G,
-    reports: &Reports<P>,
-    slot: &mut Option<D>,
-    writer: &mut W,
-    size: Hammer,
-) -> Result<(), Fault>
-    requires shows { ShowsSessions B.seat D.seat D.entries D.database_of }
-    requires there { IsSome slot.old }
-    requires none_live { IfSome slot.old (λ desk. D.live desk ≡ 0) }
-    ensures is { IsSomeAnd slot.new (λ desk. D.manager desk ≡ manager_in D.manager slot.old) }
-    ensures none_live { IfSome slot.new (λ desk. D.live desk ≡ 0) }
-{
-    hammer_at::<B, D, Brand, G, H, P, W>(rt, alloc, gate, reports, slot, writer, size)
 }
 
 /// Has a hammer of `size` play over the desk in `slot`, of the manager that `M` names, as `hammer` does.
@@ -155,37 +136,13 @@ fn hammer<
     let Ok(mut crew) = desk.open_all(rt, alloc, DATABASE, size.sessions) else {
         return Err(Fault::NoMemory);
     };
-    let hammered = play(rt, gate, reports, &mut crew, size.rounds);
+    let hammered = play(rt, gate, reports, size.rounds, &mut crew);
     let counted = match hammered {
         Ok(()) => count(rt, alloc, desk, writer, &mut crew),
         Err(fault) => Err(fault),
     };
     desk.close_all(rt, crew);
     counted
-}
-
-/// Has those of `crew` play `rounds` rounds, each once `gate` lets it pass, and take their last locks. The
-/// workers report to `reports`.
-fn play<
-    B: Board<Part> + Send,
-    M: ManagerName + Send,
-    G: Gate + Sync,
-    H: Threads + Wait + Sync,
-    P: Progress + Sync,
->(
-    rt: &H,
-    gate: &G,
-    reports: &Reports<P>,
-    crew: &mut Vec<Connection<B, M>>,
-    rounds: u32,
-) -> Result<(), Fault>
-    ensures as_many { length crew.new.items ≡ length crew.old.items }
-{
-    all_work(rt, gate, reports, Task::Rounds(rounds), crew);
-    reports.end()?;
-    all_work(rt, gate, reports, Task::Weak, crew);
-    all_work(rt, gate, reports, Task::Strong, crew);
-    reports.outcome()
 }
 
 /// Has `desk` count what those of `crew` have, which are all that are open, and prints it on `writer`.

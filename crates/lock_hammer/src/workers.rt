@@ -4,7 +4,7 @@ ghost use Rattle.std.specs.Prelude.{◌≡◌, length};
 
 use crate::progress::Progress;
 use connections::{Connection, ManagerName};
-use lock_manager::{Acquired, Board, Mode, Owner, Part, Refusal, Tag};
+use lock_manager::{Answer, Board, Call, Mode, Owner, Part, Refusal, Tag};
 use lock_script::Fault;
 use lock_table::NoMemory;
 use std::sync::Wait;
@@ -77,13 +77,13 @@ impl<'a, P: Progress> Reports<'a, P> {
     }
 
     /// Ends the progress, once all workers have ended, and answers the fault that they come to.
-    pub fn end(&self) -> Result<(), Fault> {
+    fn end(&self) -> Result<(), Fault> {
         self.progress.end();
         self.outcome()
     }
 
     /// The fault that the workers have come to: a gate that didn't let one pass, or refused memory.
-    pub fn outcome(&self) -> Result<(), Fault> {
+    fn outcome(&self) -> Result<(), Fault> {
         if self.is_held.load(Ordering::SeqCst) {
             Err(Fault::GateHeld)
         } else if self.is_short.load(Ordering::SeqCst) {
@@ -94,75 +94,71 @@ impl<'a, P: Progress> Reports<'a, P> {
     }
 }
 
-/// What all workers do in one part of the hammer.
-#[derive(Clone, Copy)]
-pub enum Task {
-    /// Each worker asks the gate and plays this number of rounds, beside the others.
-    Rounds(u32),
-    /// Each worker in turn takes a weak mode.
-    Weak,
-    /// The first worker takes a strong mode.
-    Strong,
-}
-
 /// The relation that round number `round` takes.
 fn relation(round: u32) -> Tag {
     Tag::relation(DATABASE, FIRST_RELATION + round % RELATIONS)
 }
 
-/// Has all of `crew` do `task`, which starts rounds only where `gate` lets the worker pass, and report to
-/// `reports`.
-pub fn all_work<
+/// Has those of `crew` play `rounds` rounds, each in a thread of its own and once `gate` lets it pass, and
+/// take their last locks. The workers report to `reports`. Answers the fault that they come to.
+pub fn play<
     B: Board<Part> + Send,
     M: ManagerName + Send,
     G: Gate + Sync,
     P: Progress + Sync,
     R: Threads + Wait + Sync,
->(rt: &R, gate: &G, reports: &Reports<P>, task: Task, crew: &mut Vec<Connection<B, M>>)
+>(
+    rt: &R,
+    gate: &G,
+    reports: &Reports<P>,
+    rounds: u32,
+    crew: &mut Vec<Connection<B, M>>,
+) -> Result<(), Fault>
     ensures as_many { length crew.new.items ≡ length crew.old.items }
 {
-    each_works(rt, gate, reports, task, crew.as_mut_slice());
+    work_and_take(rt, gate, reports, rounds, crew.as_mut_slice())
 }
 
-/// Has each of `crew` do `task` and report to `reports`. Rounds are played in as many threads as there are
-/// connections, each once `gate` lets the worker pass. All else is done in one thread, in their order.
-fn each_works<
+/// Has those of `crew` play and take their last locks, as `play` does.
+fn work_and_take<
     B: Board<Part> + Send,
     M: ManagerName + Send,
     G: Gate + Sync,
     P: Progress + Sync,
     R: Threads + Wait + Sync,
->(rt: &R, gate: &G, reports: &Reports<P>, task: Task, crew: &mut [Connection<B, M>]) {
-    let threads = match task {
-        Task::Rounds(_) => crew.len().max(1),
-        Task::Weak | Task::Strong => 1,
-    };
+>(
+    rt: &R,
+    gate: &G,
+    reports: &Reports<P>,
+    rounds: u32,
+    crew: &mut [Connection<B, M>],
+) -> Result<(), Fault> {
+    let threads = crew.len().max(1);
     for_each_mut(
         rt,
         crew,
         threads,
-        &|place, connection| play_part(rt, gate, reports, task, place, connection),
+        &|_, connection| work(rt, gate, reports, rounds, connection),
     );
+    reports.end()?;
+    take_last(rt, reports, crew);
+    reports.outcome()
 }
 
-/// Has `connection`, at `place` among those of the hammer, do its part of `task` and report to `reports`.
-/// It plays rounds only if `gate` lets it pass.
-fn play_part<B: Board<Part>, M: ManagerName, G: Gate, P: Progress, R: Wait>(
+/// Has each of `crew` in turn take a weak mode, and then the first one a strong mode, and report to
+/// `reports`. Nothing is in the way of either, and they keep them.
+fn take_last<B: Board<Part>, M: ManagerName, P: Progress, R: Wait>(
     rt: &R,
-    gate: &G,
     reports: &Reports<P>,
-    task: Task,
-    place: usize,
-    connection: &mut Connection<B, M>,
+    crew: &mut [Connection<B, M>],
 ) {
-    match task {
-        Task::Rounds(rounds) => work(rt, gate, reports, rounds, connection),
-        Task::Weak => take(rt, reports, relation(0), Mode::AccessShare, connection),
-        Task::Strong => {
-            if place == 0 {
-                take(rt, reports, relation(1), Mode::Share, connection);
-            }
-        }
+    let weak = Call::TryLock(relation(0), Mode::AccessShare, Owner::Transaction);
+    for connection in crew.iter_mut() {
+        take(rt, reports, connection, &weak);
+    }
+    if let Some(first) = crew.first_mut() {
+        let strong = Call::TryLock(relation(1), Mode::Share, Owner::Transaction);
+        take(rt, reports, first, &strong);
     }
 }
 
@@ -190,6 +186,8 @@ fn work<B: Board<Part>, M: ManagerName, G: Gate, P: Progress, R: Wait>(
 }
 
 /// Plays `round`: `worker` has `connection` ask for a mode on a relation, and gives back what it was granted.
+/// In the last of every sixteen rounds it waits where something is in the way, and in the others it is
+/// refused then.
 fn play_round<B: Board<Part>, M: ManagerName, R: Wait>(
     rt: &R,
     worker: u32,
@@ -198,49 +196,39 @@ fn play_round<B: Board<Part>, M: ManagerName, R: Wait>(
 ) -> Result<(), NoMemory> {
     let tag = relation(round);
     let mode = Mode::ALL[((worker % 8 + round % 8) % 8) as usize];
-    match ask(rt, round, tag, mode, connection) {
-        Ok(_) => {
-            let _released = connection.session.unlock(rt, tag, mode, Owner::Transaction);
-            Ok(())
-        }
-        Err(Refusal::NoMemory) => Err(NoMemory),
-        Err(_) => Ok(()),
+    let owner = Owner::Transaction;
+    let call = if round % PATIENCE == PATIENCE - 1 {
+        Call::Acquire(tag, mode, owner)
+    } else {
+        Call::TryLock(tag, mode, owner)
+    };
+    if ask(rt, connection, &call)? {
+        let _released = connection.session.unlock(rt, tag, mode, owner);
     }
+    Ok(())
 }
 
-/// Has `connection` ask for `mode` on `tag` in `round`: in the last of every sixteen rounds it waits where
-/// something is in the way, and in the others it is refused then.
+/// Whether `connection` is granted what `call` asks for. The error is refused memory.
 fn ask<B: Board<Part>, M: ManagerName, R: Wait>(
     rt: &R,
-    round: u32,
-    tag: Tag,
-    mode: Mode,
     connection: &mut Connection<B, M>,
-) -> Result<Acquired, Refusal> {
-    if round % PATIENCE == PATIENCE - 1 {
-        connection
-            .session
-            .acquire(rt, tag, mode, Owner::Transaction)
-    } else {
-        connection
-            .session
-            .try_lock(rt, tag, mode, Owner::Transaction)
+    call: &Call,
+) -> Result<bool, NoMemory> {
+    match connection.session.make(rt, *call) {
+        Answer::Acquired(Ok(_)) => Ok(true),
+        Answer::Acquired(Err(Refusal::NoMemory)) => Err(NoMemory),
+        _ => Ok(false),
     }
 }
 
-/// Has `connection` take `mode` on `tag`, which nothing is in the way of, and keep it, and reports to
-/// `reports`.
+/// Has `connection` make `call`, a request, and reports to `reports`.
 fn take<B: Board<Part>, M: ManagerName, P: Progress, R: Wait>(
     rt: &R,
     reports: &Reports<P>,
-    tag: Tag,
-    mode: Mode,
     connection: &mut Connection<B, M>,
+    call: &Call,
 ) {
-    let answer = connection
-        .session
-        .try_lock(rt, tag, mode, Owner::Transaction);
-    if let Err(Refusal::NoMemory) = answer {
+    if ask(rt, connection, call).is_err() {
         reports.run_short();
     }
 }

@@ -1,18 +1,18 @@
 //! Audits at a desk, over any board.
 
 ghost use Rattle.std.specs.Prelude.{◌≡◌};
-ghost use Rattle.lock_manager.specs.Crews.{KeepsSeat, SeatsAre};
 
 use crate::allocator::{refuse, was_refused};
+use crate::calls::make;
 use crate::told::Told;
-use crate::trials::{ANOTHER_TABLE, TABLE, object};
+use crate::trials::{ANOTHER_TABLE, DATABASE, TABLE, object};
+use connections::{Connection, DeskOf, ManagerName};
+use lock_manager::Call::TryLock;
 use lock_manager::Mode::{AccessShare, RowShare, Share};
-use lock_manager::{Audit, Board, Desk, OwnSession, Owner, PartTable, Refusal, close_sessions};
+use lock_manager::Owner::Transaction;
+use lock_manager::{Audit, Board, Desk, OwnSession, Part, Refusal};
 use std::alloc::Global;
 use std::sync::Wait;
-
-/// The database of the session that an audit counts.
-const DATABASE: u32 = 5;
 
 /// What an audit is to count: a weak mode by a slot, and a strong one and four objects in the table.
 const COUNTED: Audit = Audit {
@@ -21,15 +21,19 @@ const COUNTED: Audit = Audit {
     strong: 1,
 };
 
-/// Takes with `session` what an audit is to count.
-fn take_counted<T: PartTable, B: Board<T>, R: Wait>(rt: &R, session: &mut OwnSession<T, B>)
-    ensures seat { KeepsSeat B.seat session.old session.new }
-{
-    let owner = Owner::Transaction;
-    let _weak = session.try_lock(rt, TABLE, AccessShare, owner);
-    let _strong = session.try_lock(rt, ANOTHER_TABLE, Share, owner);
+/// Takes with `connection` what an audit is to count.
+fn take_counted<B: Board<Part>, M: ManagerName, R: Wait>(
+    rt: &R,
+    connection: &mut Connection<B, M>,
+) {
+    make(rt, connection, &TryLock(TABLE, AccessShare, Transaction));
+    make(rt, connection, &TryLock(ANOTHER_TABLE, Share, Transaction));
     'objects: for place in 0..4 {
-        let _object = session.try_lock(rt, object(place), RowShare, owner);
+        make(
+            rt,
+            connection,
+            &TryLock(object(place), RowShare, Transaction),
+        );
     }
 }
 
@@ -43,30 +47,23 @@ fn told_of(counted: Result<Audit, Refusal>, again: Result<Audit, Refusal>, refus
     }
 }
 
-/// Counts what a session of `desk` has with the growth numbered `growth` refused, and once more.
-pub fn tell<T: PartTable, B: Board<T>, D: Desk<OwnSession<T, B>>, R: Wait>(
+/// Counts what a connection of `desk` has with the growth numbered `growth` refused, and once more.
+pub fn tell<B: Board<Part>, D: Desk<OwnSession<Part, B>>, M: ManagerName, R: Wait>(
     rt: &R,
     alloc: Global,
-    desk: &mut D,
+    desk: &mut DeskOf<B, D, M>,
     growth: u16,
 ) -> Told
-    requires seats { SeatsAre B.seat D.seat }
-    requires none_live { D.live desk.old ≡ 0 }
-    ensures manager { D.manager desk.new ≡ D.manager desk.old }
+    requires none_live { D.live desk.old.desk ≡ 0 }
 {
-    let Ok(mut sessions) = Vec::with_capacity(alloc, 1) else {
+    let Ok(mut crew) = desk.open_all(rt, alloc, DATABASE, 1) else {
         return Told::Otherwise;
     };
-    let Ok(mut session) = desk.open(DATABASE) else {
-        sessions.destroy_empty();
-        return Told::Otherwise;
-    };
-    take_counted(rt, &mut session);
-    sessions.push_reserved(session);
+    take_counted(rt, &mut crew[0]);
     refuse(alloc, growth);
-    let counted = desk.audit(rt, &mut sessions);
+    let counted = desk.audit(rt, alloc, &mut crew);
     let refused = was_refused(alloc);
-    let again = desk.audit(rt, &mut sessions);
-    close_sessions(rt, desk, sessions);
+    let again = desk.audit(rt, alloc, &mut crew);
+    desk.close_all(rt, crew);
     told_of(counted, again, refused)
 }

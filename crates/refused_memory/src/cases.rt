@@ -35,9 +35,9 @@ pub enum Case<'a> {
 /// five for the lists of partitions, of slots and of words, and for the table of both. A local table takes
 /// one for its slots, two for their index, and three for the counts of outer levels, a list that grows to
 /// 16. A session takes the growths of a local table and one for a box, and a crew those of its sessions and
-/// one for their list. The list of an audit's rows grows to four and to eight. A pool takes two lists, and
-/// one more for the sessions that it lends to its audit.
-pub static CASES: [(&'static str, Case<'static>, u16); 19] = [
+/// one for their list. The list of an audit's rows grows to four and to eight, and a desk or a pool lends
+/// the audit its sessions in one list more. A pool takes two lists.
+pub const CASES: [(&'static str, Case<'static>, u16); 19] = [
     ("Manager::new", Case::MakesManager, 117),
     ("Manager::for_server", Case::MakesServer, 313),
     ("Opener::session", Case::OpensSession, 7),
@@ -69,11 +69,19 @@ pub static CASES: [(&'static str, Case<'static>, u16); 19] = [
     (
         "audit, five rows of the table",
         Case::AtDesk(DeskCase::Audits),
+        3,
+    ),
+    (
+        "DeskOf::open_all, two",
+        Case::AtDesk(DeskCase::OpensCrew),
+        15,
+    ),
+    ("SessionPool::open", Case::AtDesk(DeskCase::Lends), 7),
+    (
+        "Pool::new",
+        Case::AtDesk(DeskCase::WithPool(PoolCase::IsMade)),
         2,
     ),
-    ("open_sessions, two", Case::AtDesk(DeskCase::OpensCrew), 15),
-    ("SessionPool::open", Case::AtDesk(DeskCase::Lends), 7),
-    ("Pool::new", Case::AtDesk(DeskCase::MakesPool), 2),
     (
         "Pool::open",
         Case::AtDesk(DeskCase::WithPool(PoolCase::Opens)),

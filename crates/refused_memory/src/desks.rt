@@ -1,109 +1,77 @@
-//! Sessions that a desk opens, over any board: those of a crew, and those that a pool lends.
-
-ghost use Rattle.std.specs.Prelude.{◌≡◌};
-ghost use Rattle.lock_manager.specs.Crews.{AreOf, SeatsAre};
+//! Sessions that a desk opens, over any board: those of a crew, and one that a pool of sessions lends.
 
 use crate::allocator::{refuse, was_refused};
 use crate::told::Told;
 use crate::trials::DATABASE;
-use lock_manager::{
-    Board, Desk, OwnSession, PartTable, Refusal, SessionPool, close_sessions, open_sessions,
-};
+use connections::{DeskOf, ManagerName};
+use lock_manager::{Board, Desk, OwnSession, Part, Refusal, SessionPool};
 use std::alloc::Global;
 use std::sync::Wait;
 
 /// How many sessions the crew has.
 const CREW: u32 = 2;
 
-/// Opens at `desk` what `crew` has too little of its sessions, and answers whether all are open then.
-fn fill<T: PartTable, B: Board<T>, D: Desk<OwnSession<T, B>>, R: Wait>(
-    rt: &R,
-    desk: &mut D,
-    crew: &mut Vec<OwnSession<T, B>>,
-) -> bool
-    requires seats { SeatsAre B.seat D.seat }
-    requires own { AreOf B.seat (D.manager desk.old) crew.old.items }
-    ensures own { AreOf B.seat (D.manager desk.old) crew.new.items }
-    ensures manager { D.manager desk.new ≡ D.manager desk.old }
-{
-    if crew.len() >= CREW as usize {
-        return false;
-    }
-    let further = CREW - crew.len() as u32;
-    open_sessions(rt, desk, crew, DATABASE, further).is_ok() && desk.live() == CREW
-}
-
-/// Opens a crew at `desk`, which has no session open, with the growth numbered `growth` refused, and after a
-/// refusal those that are missing.
-pub fn open_crew<T: PartTable, B: Board<T>, D: Desk<OwnSession<T, B>>, R: Wait>(
+/// Opens a crew at `desk`, closes it, and answers how many sessions were open.
+fn open_and_close<B: Board<Part>, D: Desk<OwnSession<Part, B>>, M: ManagerName, R: Wait>(
     rt: &R,
     alloc: Global,
-    desk: &mut D,
+    desk: &mut DeskOf<B, D, M>,
+) -> Result<u32, Refusal> {
+    let crew = desk.open_all(rt, alloc, DATABASE, CREW)?;
+    let live = desk.live();
+    desk.close_all(rt, crew);
+    Ok(live)
+}
+
+/// Opens a crew at `desk`, which has no session open, with the growth numbered `growth` refused, and once
+/// more after a refusal.
+pub fn open_crew<B: Board<Part>, D: Desk<OwnSession<Part, B>>, M: ManagerName, R: Wait>(
+    rt: &R,
+    alloc: Global,
+    desk: &mut DeskOf<B, D, M>,
     growth: u16,
-) -> Told
-    requires seats { SeatsAre B.seat D.seat }
-    ensures manager { D.manager desk.new ≡ D.manager desk.old }
-{
-    let mut crew = Vec::new(alloc);
+) -> Told {
     refuse(alloc, growth);
-    let opened = open_sessions(rt, desk, &mut crew, DATABASE, CREW);
+    let opened = open_and_close(rt, alloc, desk);
     let refused = was_refused(alloc);
-    let told = match opened {
-        Ok(()) => Told::of(refused, false, desk.live() == CREW),
-        Err(refusal) => {
-            let is_right = desk.live() as usize == crew.len() && fill(rt, desk, &mut crew);
-            Told::of(refused, refusal == Refusal::NoMemory, is_right)
-        }
-    };
-    close_sessions(rt, desk, crew);
-    told
+    if opened.is_ok() {
+        return Told::of(refused, false, opened == Ok(CREW));
+    }
+    let is_right = desk.live() == 0 && open_and_close(rt, alloc, desk) == Ok(CREW);
+    Told::of(refused, opened == Err(Refusal::NoMemory), is_right)
 }
 
-/// Has `pool` open a session at `desk`, and take it back, and answers whether it was the only one there.
-fn lends<T: PartTable, B: Board<T>, D: Desk<OwnSession<T, B>>, R: Wait>(
-    rt: &R,
-    desk: &mut D,
-    pool: &mut SessionPool<T, B>,
-) -> bool
-    requires seats { SeatsAre B.seat D.seat }
-    requires free { AreOf B.seat (D.manager desk.old) pool.old.free }
-    ensures free { AreOf B.seat (D.manager desk.old) pool.new.free }
-    ensures manager { D.manager desk.new ≡ D.manager desk.old }
-{
-    let Ok(session) = pool.open(rt, desk, DATABASE) else {
-        return false;
-    };
-    pool.close(rt, desk, session);
-    desk.live() == 1
-}
-
-/// Has a pool open a session at `desk`, which has no session open, with the growth numbered `growth` refused,
-/// and once more after a refusal.
-pub fn lend<T: PartTable, B: Board<T>, D: Desk<OwnSession<T, B>>, R: Wait>(
+/// Has a pool of sessions open one at `desk`, which has no session open, with the growth numbered `growth`
+/// refused, and once more after a refusal.
+pub fn lend<B: Board<Part>, D: Desk<OwnSession<Part, B>>, M: ManagerName, R: Wait>(
     rt: &R,
     alloc: Global,
-    desk: &mut D,
+    desk: &mut DeskOf<B, D, M>,
     growth: u16,
-) -> Told
-    requires seats { SeatsAre B.seat D.seat }
-    ensures manager { D.manager desk.new ≡ D.manager desk.old }
-{
+) -> Told {
     let Ok(mut pool) = SessionPool::new(alloc) else {
         return Told::Otherwise;
     };
     refuse(alloc, growth);
-    let opened = pool.open(rt, desk, DATABASE);
+    let opened = pool.open(rt, &mut desk.desk, DATABASE);
     let refused = was_refused(alloc);
+    let none = desk.live() == 0;
     let told = match opened {
         Ok(session) => {
-            pool.close(rt, desk, session);
+            pool.close(rt, &mut desk.desk, session);
             Told::of(refused, false, desk.live() == 1)
         }
         Err(refusal) => {
-            let is_right = desk.live() == 0 && lends(rt, desk, &mut pool);
+            let is_right = match pool.open(rt, &mut desk.desk, DATABASE) {
+                Ok(session) => {
+                    pool.close(rt, &mut desk.desk, session);
+                    none && desk.live() == 1
+                }
+                Err(_) => false,
+            };
             Told::of(refused, refusal == Refusal::NoMemory, is_right)
         }
     };
-    pool.end(rt, desk);
+    pool.end(rt, &mut desk.desk);
     told
 }

@@ -99,7 +99,8 @@ fn main(rt: HostRuntime) -> anyhow::Result<()> {
         "sessions that go on: nothing grew in {} further rounds",
         steady::ROUNDS
     )?;
-    if managers::perform(&rt, rt.alloc(), DeskCase::ComesAndGoes, 0) != Told::Answered {
+    let comes_and_goes = DeskCase::WithPool(PoolCase::ComesAndGoes);
+    if managers::perform(&rt, rt.alloc(), comes_and_goes, 0) != Told::Answered {
         bail!("connections that come and go: it went otherwise");
     }
     println!(rt;

@@ -1,14 +1,9 @@
-//! A pool of connections, and the calls of the pool itself.
-
-ghost use Rattle.std.specs.Prelude.{◌≡◌, IsSomeAnd};
-ghost use Rattle.connections.specs.Shown.{ShowsSessions};
+//! The calls of a pool of connections itself.
 
 use crate::allocator::{refuse, was_refused};
-use crate::desk_cases::PoolCase;
 use crate::told::Told;
 use crate::trials::DATABASE;
-use crate::{steady, telling};
-use connections::{ManagerName, Pool, nobody};
+use connections::{ManagerName, Pool};
 use lock_manager::{Audit, Board, Desk, OwnSession, Part, Refusal};
 use std::alloc::Global;
 use std::sync::Wait;
@@ -19,69 +14,6 @@ const NOTHING: Audit = Audit {
     table: 0,
     strong: 0,
 };
-
-/// Does `pool_case` with a pool over the desk in `slot`, with the growth numbered `growth` refused.
-pub fn perform<B: Board<Part>, D: Desk<OwnSession<Part, B>> + Drop, M: ManagerName, R: Wait>(
-    rt: &R,
-    alloc: Global,
-    slot: &mut Option<D>,
-    pool_case: PoolCase<'_>,
-    growth: u16,
-) -> Told
-    requires shows { ShowsSessions B.seat D.seat D.entries D.database_of }
-    requires is { IsSomeAnd slot.old (λ desk. D.manager desk ≡ M.manager) }
-    ensures is { IsSomeAnd slot.new (λ desk. D.manager desk ≡ M.manager) }
-{
-    let Ok(mut pool) = Pool::<B, D, M>::new(alloc, slot) else {
-        return Told::Otherwise;
-    };
-    let told = match pool_case {
-        PoolCase::Opens => open(rt, alloc, &mut pool, growth),
-        PoolCase::Lives => lives(alloc, &pool, growth),
-        PoolCase::Audits => audit(rt, alloc, &mut pool, growth),
-        PoolCase::Tells(trial) => telling::tell(rt, alloc, &mut pool, trial, growth),
-        PoolCase::GoesOn => steady::tell(rt, alloc, &mut pool),
-    };
-    let mut pool = Some(pool);
-    *slot = Pool::end(rt, &mut pool);
-    nobody(pool);
-    told
-}
-
-/// Makes a pool over the desk in `slot` with the growth numbered `growth` refused, and once more after a
-/// refusal.
-pub fn make<B: Board<Part>, D: Desk<OwnSession<Part, B>> + Drop, M: ManagerName, R: Wait>(
-    rt: &R,
-    alloc: Global,
-    slot: &mut Option<D>,
-    growth: u16,
-) -> Told
-    requires shows { ShowsSessions B.seat D.seat D.entries D.database_of }
-    requires is { IsSomeAnd slot.old (λ desk. D.manager desk ≡ M.manager) }
-    ensures is { IsSomeAnd slot.new (λ desk. D.manager desk ≡ M.manager) }
-{
-    refuse(alloc, growth);
-    let ran_out = make_and_end::<B, D, M, R>(rt, alloc, slot) == Err(Refusal::NoMemory);
-    let refused = was_refused(alloc);
-    let is_right = !ran_out || make_and_end::<B, D, M, R>(rt, alloc, slot).is_ok();
-    Told::of(refused, ran_out, is_right)
-}
-
-/// Makes a pool over the desk in `slot`, and ends it.
-fn make_and_end<B: Board<Part>, D: Desk<OwnSession<Part, B>> + Drop, M: ManagerName, R: Wait>(
-    rt: &R,
-    alloc: Global,
-    slot: &mut Option<D>,
-) -> Result<(), Refusal>
-    requires shows { ShowsSessions B.seat D.seat D.entries D.database_of }
-    requires is { IsSomeAnd slot.old (λ desk. D.manager desk ≡ M.manager) }
-    ensures is { IsSomeAnd slot.new (λ desk. D.manager desk ≡ M.manager) }
-{
-    let mut pool = Some(Pool::<B, D, M>::new(alloc, slot)?);
-    *slot = Pool::end(rt, &mut pool);
-    nobody(pool);
-    Ok(())
-}
 
 /// Opens a connection of `pool`, which has no session open, and closes it. Answers the number of its session.
 fn open_and_close<B: Board<Part>, D: Desk<OwnSession<Part, B>>, M: ManagerName, R: Wait>(
@@ -96,7 +28,7 @@ fn open_and_close<B: Board<Part>, D: Desk<OwnSession<Part, B>>, M: ManagerName, 
 
 /// Opens a connection of `pool`, which has no session open, with the growth numbered `growth` refused, and
 /// once more after a refusal. Its session has the first number.
-fn open<B: Board<Part>, D: Desk<OwnSession<Part, B>>, M: ManagerName, R: Wait>(
+pub fn open<B: Board<Part>, D: Desk<OwnSession<Part, B>>, M: ManagerName, R: Wait>(
     rt: &R,
     alloc: Global,
     pool: &mut Pool<B, D, M>,
@@ -113,7 +45,7 @@ fn open<B: Board<Part>, D: Desk<OwnSession<Part, B>>, M: ManagerName, R: Wait>(
 }
 
 /// Has `pool` answer its lives with the growth numbered `growth` refused, and once more after a refusal.
-fn lives<B: Board<Part>, D: Desk<OwnSession<Part, B>>, M: ManagerName>(
+pub fn lives<B: Board<Part>, D: Desk<OwnSession<Part, B>>, M: ManagerName>(
     alloc: Global,
     pool: &Pool<B, D, M>,
     growth: u16,
@@ -129,7 +61,7 @@ fn lives<B: Board<Part>, D: Desk<OwnSession<Part, B>>, M: ManagerName>(
 
 /// Counts what is in the manager of `pool`, which has one session and nothing held, with the growth numbered
 /// `growth` refused, and once more after a refusal.
-fn audit<B: Board<Part>, D: Desk<OwnSession<Part, B>>, M: ManagerName, R: Wait>(
+pub fn audit<B: Board<Part>, D: Desk<OwnSession<Part, B>>, M: ManagerName, R: Wait>(
     rt: &R,
     alloc: Global,
     pool: &mut Pool<B, D, M>,

@@ -2,57 +2,60 @@
 //! more.
 
 use crate::allocator::{refuse_all, was_refused};
-use crate::calls::{Answer, Call, end_wait, make};
+use crate::calls::Outcome::{Conflict, Granted, Released};
+use crate::calls::{Outcome, end_wait, make, queue};
 use crate::told::Told;
 use crate::trials::{ANOTHER_TABLE, DATABASE, OBJECT, TABLE, object};
 use connections::{Connection, ManagerName, Pool, WaitingConnection};
+use lock_manager::Call::{TryLock, Unlock};
 use lock_manager::Mode::{AccessExclusive, AccessShare, Exclusive, RowExclusive, Share};
-use lock_manager::{Board, Desk, OwnSession, Owner, Part, Polled, Started};
+use lock_manager::Owner::Transaction;
+use lock_manager::{Board, Call, Desk, OwnSession, Owner, Part};
 use std::alloc::Global;
 use std::sync::Wait;
 
 /// How many rounds two sessions play after the first one.
 pub const ROUNDS: u32 = 100_000;
 
-/// A turn of a round: whether the first session makes the call, or else the second one, the call, and what it
-/// is to be answered.
-type Turn = (bool, Call, Answer);
+/// A turn of a round: whether the first session makes the call, or else the second one, the call, and what is
+/// to come of it.
+type Turn = (bool, Call, Outcome);
 
 /// The turns of a round, which a wait follows. The first session has a lock all the while.
-static TURNS: [Turn; 17] = [
+const TURNS: [Turn; 17] = [
     // First in, first out: by a slot, an object, and a strong mode.
-    (true, Call::Try(TABLE, RowExclusive), Answer::Granted),
-    (true, Call::Try(OBJECT, Exclusive), Answer::Granted),
-    (true, Call::Try(ANOTHER_TABLE, Share), Answer::Granted),
-    (true, Call::Unlock(TABLE, RowExclusive), Answer::Released),
-    (true, Call::Unlock(OBJECT, Exclusive), Answer::Released),
-    (true, Call::Unlock(ANOTHER_TABLE, Share), Answer::Released),
+    (true, TryLock(TABLE, RowExclusive, Transaction), Granted),
+    (true, TryLock(OBJECT, Exclusive, Transaction), Granted),
+    (true, TryLock(ANOTHER_TABLE, Share, Transaction), Granted),
+    (true, Unlock(TABLE, RowExclusive, Transaction), Released),
+    (true, Unlock(OBJECT, Exclusive, Transaction), Released),
+    (true, Unlock(ANOTHER_TABLE, Share, Transaction), Released),
     // Last in, first out.
-    (true, Call::Try(TABLE, RowExclusive), Answer::Granted),
-    (true, Call::Try(OBJECT, Exclusive), Answer::Granted),
-    (true, Call::Try(ANOTHER_TABLE, Share), Answer::Granted),
-    (true, Call::Unlock(ANOTHER_TABLE, Share), Answer::Released),
-    (true, Call::Unlock(OBJECT, Exclusive), Answer::Released),
-    (true, Call::Unlock(TABLE, RowExclusive), Answer::Released),
+    (true, TryLock(TABLE, RowExclusive, Transaction), Granted),
+    (true, TryLock(OBJECT, Exclusive, Transaction), Granted),
+    (true, TryLock(ANOTHER_TABLE, Share, Transaction), Granted),
+    (true, Unlock(ANOTHER_TABLE, Share, Transaction), Released),
+    (true, Unlock(OBJECT, Exclusive, Transaction), Released),
+    (true, Unlock(TABLE, RowExclusive, Transaction), Released),
     // A strong mode moves the other session's weak one out of its slot, and the next one of both goes by the
     // table.
-    (true, Call::Try(TABLE, AccessShare), Answer::Granted),
+    (true, TryLock(TABLE, AccessShare, Transaction), Granted),
     (
         false,
-        Call::Try(ANOTHER_TABLE, AccessShare),
-        Answer::Granted,
+        TryLock(ANOTHER_TABLE, AccessShare, Transaction),
+        Granted,
     ),
     (
         false,
-        Call::Try(TABLE, AccessExclusive),
-        Answer::Conflict(0, AccessShare),
+        TryLock(TABLE, AccessExclusive, Transaction),
+        Conflict(0, AccessShare),
     ),
     (
         true,
-        Call::Try(ANOTHER_TABLE, AccessExclusive),
-        Answer::Conflict(1, AccessShare),
+        TryLock(ANOTHER_TABLE, AccessExclusive, Transaction),
+        Conflict(1, AccessShare),
     ),
-    (true, Call::Try(OBJECT, Exclusive), Answer::Granted),
+    (true, TryLock(OBJECT, Exclusive, Transaction), Granted),
 ];
 
 /// Plays all turns of a round with `first` and `second`, and answers whether they went as they are to.
@@ -62,14 +65,13 @@ fn turns_go<B: Board<Part>, M: ManagerName, R: Wait>(
     second: &mut Connection<B, M>,
 ) -> bool {
     let mut all = true;
-    'turns: for place in 0..17 {
-        let (is_first, call, right) = TURNS[place];
-        let answer = if is_first {
+    for (is_first, call, right) in &TURNS {
+        let outcome = if *is_first {
             make(rt, first, call)
         } else {
             make(rt, second, call)
         };
-        all = all && answer == right;
+        all = all && outcome == *right;
     }
     all
 }
@@ -79,10 +81,9 @@ fn is_granted<B: Board<Part>, M: ManagerName, R: Wait>(
     rt: &R,
     waiting: WaitingConnection<B, M>,
 ) -> (Connection<B, M>, bool) {
-    match waiting.poll() {
-        Polled::Granted(connection) => (connection, true),
-        Polled::CancelAsked(waiting) => (end_wait(rt, waiting), false),
-        Polled::Still(waiting) => (end_wait(rt, waiting), false),
+    match waiting.poll().into_parts() {
+        Ok(connection) => (connection, true),
+        Err((waiting, _)) => (end_wait(rt, waiting), false),
     }
 }
 
@@ -92,14 +93,12 @@ fn hand_over<B: Board<Part>, M: ManagerName, R: Wait>(
     first: &mut Connection<B, M>,
     second: Connection<B, M>,
 ) -> (Connection<B, M>, bool) {
-    match second.start(rt, OBJECT, Exclusive, Owner::Transaction) {
-        Started::Queued(waiting) => {
-            first.session.commit(rt);
+    match queue(rt, second, OBJECT, Exclusive) {
+        Ok((second, _)) => (second, false),
+        Err(waiting) => {
+            commit(rt, first);
             is_granted(rt, waiting)
         }
-        Started::Granted(second) => (second, false),
-        Started::AlreadyHeld(second) => (second, false),
-        Started::Refused(second, _) => (second, false),
     }
 }
 
@@ -135,10 +134,7 @@ fn go_on<B: Board<Part>, M: ManagerName, R: Wait>(
     first: &mut Connection<B, M>,
     second: Connection<B, M>,
 ) -> (Connection<B, M>, Told) {
-    let kept = first
-        .session
-        .try_lock(rt, object(0), Share, Owner::Session)
-        .is_ok();
+    let kept = make(rt, first, &TryLock(object(0), Share, Owner::Session)) == Granted;
     let (second, went) = go_rounds(rt, first, second, 1);
     refuse_all(alloc);
     let (second, all) = go_rounds(rt, first, second, ROUNDS);

@@ -3,11 +3,11 @@
 ghost use Rattle.std.specs.Prelude.{◌≤◌};
 
 use crate::allocator::{refuse, was_refused};
-use crate::calls::{ask, end_wait, queue};
+use crate::calls::{Outcome, ask, end_wait, make, queue};
 use crate::told::Told;
 use crate::trials::{DATABASE, Hold, TABLE, Trial, object};
 use connections::{Connection, ManagerName, Pool};
-use lock_manager::{Board, Desk, Listing, Mode, OwnSession, Owner, Part, SlotRow, TableRow};
+use lock_manager::{Board, Call, Desk, Listing, Mode, OwnSession, Owner, Part, SlotRow, TableRow};
 use std::alloc::Global;
 use std::sync::Wait;
 
@@ -75,9 +75,11 @@ fn take_own<B: Board<Part>, M: ManagerName, R: Wait>(
     number: u32,
 ) {
     'own: for place in 0..number {
-        let _answer = connection
-            .session
-            .try_lock(rt, object(place), Mode::RowShare, Owner::Session);
+        make(
+            rt,
+            connection,
+            &Call::TryLock(object(place), Mode::RowShare, Owner::Session),
+        );
     }
 }
 
@@ -93,18 +95,19 @@ fn ask_twice<B: Board<Part>, M: ManagerName, R: Wait>(
     let mut connection = connection;
     let before = see(rt, &mut connection);
     refuse(alloc, growth);
-    let (mut connection, answer) = ask(rt, connection, trial.request);
+    let (mut connection, outcome) = ask(rt, connection, &trial.request);
     let refused = was_refused(alloc);
+    let ran_out = outcome == Outcome::NoMemory;
     if !refused {
         return (
             connection,
-            Told::of(false, answer.ran_out(), answer == trial.answer),
+            Told::of(false, ran_out, outcome == trial.outcome),
         );
     }
     let same = see(rt, &mut connection) == before;
-    let (connection, again) = ask(rt, connection, trial.request);
-    let is_right = same && again == trial.answer;
-    (connection, Told::of(true, answer.ran_out(), is_right))
+    let (connection, again) = ask(rt, connection, &trial.request);
+    let is_right = same && again == trial.outcome;
+    (connection, Told::of(true, ran_out, is_right))
 }
 
 /// Opens with `pool` `waiters` connections, each of which waits for an object that `connection`, the asking
@@ -126,30 +129,30 @@ fn with_waiters<B: Board<Part>, D: Desk<OwnSession<Part, B>>, M: ManagerName, R:
         return (connection, Told::Otherwise);
     };
     let awaited = trial.awaited.unwrap_or(object(waiters - 1));
-    match queue(rt, waiter, awaited) {
-        Ok(waiting) => {
+    match queue(rt, waiter, awaited, Mode::Exclusive) {
+        Ok((waiter, _)) => {
+            pool.close(rt, waiter);
+            (connection, Told::Otherwise)
+        }
+        Err(waiting) => {
             let answered = with_waiters(rt, alloc, pool, connection, trial, waiters - 1, growth);
             pool.close(rt, end_wait(rt, waiting));
             answered
         }
-        Err(waiter) => {
-            pool.close(rt, waiter);
-            (connection, Told::Otherwise)
-        }
     }
 }
 
-/// Takes `hold`, if there is one, with `connection`, and answers whether the connection has it.
+/// Takes `hold`, if there is one, with `connection`, and answers whether the connection was granted that.
 fn take<B: Board<Part>, M: ManagerName, R: Wait>(
     rt: &R,
     connection: &mut Connection<B, M>,
     hold: Option<Hold>,
 ) -> bool {
     match hold {
-        Some((tag, mode)) => connection
-            .session
-            .try_lock(rt, tag, mode, Owner::Transaction)
-            .is_ok(),
+        Some((tag, mode)) => {
+            let call = Call::TryLock(tag, mode, Owner::Transaction);
+            make(rt, connection, &call) == Outcome::Granted
+        }
         None => true,
     }
 }

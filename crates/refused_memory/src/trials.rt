@@ -1,7 +1,11 @@
 //! What is run with sessions: who has what, what is asked for then, and how many growths that takes.
 
-use crate::calls::{Answer, Call, Request};
+use crate::calls::Outcome::{Conflict, GivenUp, Granted, Listed, Queued, Rows};
+use crate::calls::Request::{Blockers, Lock, Makes, Start, While};
+use crate::calls::{Outcome, Request};
+use lock_manager::Call::{Acquire, List, Queue, TryFast, TryLock, Waits};
 use lock_manager::Mode::{AccessExclusive, AccessShare, Exclusive, RowExclusive, Share};
+use lock_manager::Owner::Transaction;
 use lock_manager::{Mode, Tag};
 
 /// The database of all sessions.
@@ -24,7 +28,7 @@ pub struct Trial {
     /// The one object that all waiters of the trial wait for. `None` where each waits for a different one.
     pub awaited: Option<Tag>,
     pub request: Request,
-    pub answer: Answer,
+    pub outcome: Outcome,
     /// How many growths the request of the trial takes.
     pub growths: u16,
 }
@@ -78,242 +82,93 @@ const ONE: [Option<Hold>; 3] = [Some((OBJECT, Exclusive)), None, None];
 /// The first other session has an object in the partition of the objects that the asking session has.
 const ONE_OF_MANY: [Option<Hold>; 3] = [Some((MANY, Exclusive)), None, None];
 
+/// Trials, each with its name; what the others have, how many objects the asking session has, and how many
+/// sessions wait, with what they wait for where it is one object; the request, what comes of it, and how many
+/// growths it takes.
+macro_rules! trials {
+    ($(
+        $name:literal: $others:ident $own:literal $waiters:literal $($awaited:ident)?,
+            $request:expr => $outcome:expr, $growths:literal;
+    )+) => {
+        [$(Trial {
+            name: $name,
+            others: $others,
+            own: $own,
+            waiters: $waiters,
+            awaited: awaited!($($awaited)?),
+            request: $request,
+            outcome: $outcome,
+            growths: $growths,
+        }),+]
+    };
+}
+
+/// The one object that all waiters of a trial wait for, if it is one.
+macro_rules! awaited {
+    () => { None };
+    ($tag:ident) => { Some($tag) };
+}
+
 /// The trials that are run with sessions.
-pub static TRIALS: [Trial; 22] = [
+pub const TRIALS: [Trial; 22] = trials! {
     // Five in a partition that has had nothing yet: a lock record, a holder record, a queue record, a queue,
     // and a name among those woken.
-    Trial {
-        name: "try_lock, an object",
-        others: NOBODY,
-        own: 0,
-        waiters: 0,
-        awaited: None,
-        request: Request::Makes(Call::Try(OBJECT, Exclusive)),
-        answer: Answer::Granted,
-        growths: 5,
-    },
+    "try_lock, an object": NOBODY 0 0,
+        Makes(TryLock(OBJECT, Exclusive, Transaction)) => Granted, 5;
     // Four more in the local table: its slots, the counts of outer levels, and both lists of the index.
-    Trial {
-        name: "try_lock, an object of a session that has sixteen",
-        others: NOBODY,
-        own: 16,
-        waiters: 0,
-        awaited: None,
-        request: Request::Makes(Call::Try(OBJECT, Exclusive)),
-        answer: Answer::Granted,
-        growths: 9,
-    },
+    "try_lock, an object of a session that has sixteen": NOBODY 16 0,
+        Makes(TryLock(OBJECT, Exclusive, Transaction)) => Granted, 9;
     // Four in the local table, and four in a partition that is full: both lists of its index, lock records,
     // holder records.
-    Trial {
-        name: "try_lock, the seventeenth object of a partition",
-        others: NOBODY,
-        own: 16,
-        waiters: 0,
-        awaited: None,
-        request: Request::Makes(Call::Try(MANY, Exclusive)),
-        answer: Answer::Granted,
-        growths: 8,
-    },
-    Trial {
-        name: "try_lock, a weak mode by a slot",
-        others: NOBODY,
-        own: 16,
-        waiters: 0,
-        awaited: None,
-        request: Request::Makes(Call::Try(TABLE, AccessShare)),
-        answer: Answer::Granted,
-        growths: 4,
-    },
+    "try_lock, the seventeenth object of a partition": NOBODY 16 0,
+        Makes(TryLock(MANY, Exclusive, Transaction)) => Granted, 8;
+    "try_lock, a weak mode by a slot": NOBODY 16 0,
+        Makes(TryLock(TABLE, AccessShare, Transaction)) => Granted, 4;
     // Past the slots of three readers, with as many objects in the same partition: the record that has to
     // grow is now that of the first reader, now the session's own, now that of the third one, now of the
     // second one. At last the first one is in the way.
-    Trial {
-        name: "try_lock, a strong mode, with nothing beside",
-        others: READERS,
-        own: 0,
-        waiters: 0,
-        awaited: None,
-        request: Request::Makes(Call::Try(TABLE, AccessExclusive)),
-        answer: Answer::Conflict(0, AccessShare),
-        growths: 5,
-    },
-    Trial {
-        name: "try_lock, a strong mode, with one object beside",
-        others: READERS,
-        own: 1,
-        waiters: 0,
-        awaited: None,
-        request: Request::Makes(Call::Try(TABLE, AccessExclusive)),
-        answer: Answer::Conflict(0, AccessShare),
-        growths: 1,
-    },
-    Trial {
-        name: "try_lock, a strong mode, with two objects beside",
-        others: READERS,
-        own: 2,
-        waiters: 0,
-        awaited: None,
-        request: Request::Makes(Call::Try(TABLE, AccessExclusive)),
-        answer: Answer::Conflict(0, AccessShare),
-        growths: 1,
-    },
-    Trial {
-        name: "try_lock, a strong mode, with three objects beside",
-        others: READERS,
-        own: 3,
-        waiters: 0,
-        awaited: None,
-        request: Request::Makes(Call::Try(TABLE, AccessExclusive)),
-        answer: Answer::Conflict(0, AccessShare),
-        growths: 2,
-    },
-    Trial {
-        name: "try_fast",
-        others: NOBODY,
-        own: 16,
-        waiters: 0,
-        awaited: None,
-        request: Request::Makes(Call::Fast(TABLE, RowExclusive)),
-        answer: Answer::Granted,
-        growths: 4,
-    },
-    Trial {
-        name: "start, granted",
-        others: NOBODY,
-        own: 0,
-        waiters: 0,
-        awaited: None,
-        request: Request::Start(OBJECT, Share),
-        answer: Answer::Granted,
-        growths: 5,
-    },
+    "try_lock, a strong mode, with nothing beside": READERS 0 0,
+        Makes(TryLock(TABLE, AccessExclusive, Transaction)) => Conflict(0, AccessShare), 5;
+    "try_lock, a strong mode, with one object beside": READERS 1 0,
+        Makes(TryLock(TABLE, AccessExclusive, Transaction)) => Conflict(0, AccessShare), 1;
+    "try_lock, a strong mode, with two objects beside": READERS 2 0,
+        Makes(TryLock(TABLE, AccessExclusive, Transaction)) => Conflict(0, AccessShare), 1;
+    "try_lock, a strong mode, with three objects beside": READERS 3 0,
+        Makes(TryLock(TABLE, AccessExclusive, Transaction)) => Conflict(0, AccessShare), 2;
+    "try_fast": NOBODY 16 0,
+        Makes(TryFast(TABLE, RowExclusive, Transaction)) => Granted, 4;
+    "start, granted": NOBODY 0 0,
+        Start(OBJECT, Share) => Granted, 5;
     // Four lock records and four holder records are full.
-    Trial {
-        name: "start, queued",
-        others: ONE_OF_MANY,
-        own: 3,
-        waiters: 0,
-        awaited: None,
-        request: Request::Start(MANY, Share),
-        answer: Answer::Queued,
-        growths: 2,
-    },
+    "start, queued": ONE_OF_MANY 3 0,
+        Start(MANY, Share) => Queued, 2;
     // Five lock records and their holder records, with one for each wait, have room. Four queue records are
     // full, the fourth one took the spare queue, and the list of those woken has room for four names.
-    Trial {
-        name: "start, queued, with four objects awaited beside",
-        others: ONE_OF_MANY,
-        own: 4,
-        waiters: 4,
-        awaited: None,
-        request: Request::Start(MANY, Share),
-        answer: Answer::Queued,
-        growths: 3,
-    },
+    "start, queued, with four objects awaited beside": ONE_OF_MANY 4 4,
+        Start(MANY, Share) => Queued, 3;
     // There is room for the lock record, a holder record and a spare queue. The queue has room for four
     // waits, and the list of those woken for four names: both grow.
-    Trial {
-        name: "start, queued, behind four for the same object",
-        others: ONE_OF_MANY,
-        own: 0,
-        waiters: 4,
-        awaited: Some(MANY),
-        request: Request::Start(MANY, Share),
-        answer: Answer::Queued,
-        growths: 2,
-    },
-    Trial {
-        name: "lock, granted",
-        others: NOBODY,
-        own: 16,
-        waiters: 0,
-        awaited: None,
-        request: Request::Lock(OBJECT, Share),
-        answer: Answer::Granted,
-        growths: 9,
-    },
-    Trial {
-        name: "acquire, granted",
-        others: NOBODY,
-        own: 16,
-        waiters: 0,
-        awaited: None,
-        request: Request::Makes(Call::Acquire(OBJECT, Share)),
-        answer: Answer::Granted,
-        growths: 9,
-    },
-    Trial {
-        name: "acquire_while, granted",
-        others: NOBODY,
-        own: 16,
-        waiters: 0,
-        awaited: None,
-        request: Request::While(OBJECT, Share),
-        answer: Answer::Granted,
-        growths: 9,
-    },
+    "start, queued, behind four for the same object": ONE_OF_MANY 0 4 MANY,
+        Start(MANY, Share) => Queued, 2;
+    "lock, granted": NOBODY 16 0,
+        Lock(OBJECT, Share) => Granted, 9;
+    "acquire, granted": NOBODY 16 0,
+        Makes(Acquire(OBJECT, Share, Transaction)) => Granted, 9;
+    "acquire_while, granted": NOBODY 16 0,
+        While(OBJECT, Share) => Granted, 9;
     // As where a start is queued.
-    Trial {
-        name: "acquire_while, given up",
-        others: ONE_OF_MANY,
-        own: 3,
-        waiters: 0,
-        awaited: None,
-        request: Request::While(MANY, Share),
-        answer: Answer::GivenUp,
-        growths: 2,
-    },
-    Trial {
-        name: "lock, a conflict for a conditional one",
-        others: ONE,
-        own: 0,
-        waiters: 0,
-        awaited: None,
-        request: Request::Makes(Call::Try(OBJECT, Share)),
-        answer: Answer::Conflict(0, Exclusive),
-        growths: 0,
-    },
+    "acquire_while, given up": ONE_OF_MANY 3 0,
+        While(MANY, Share) => GivenUp, 2;
+    "lock, a conflict for a conditional one": ONE 0 0,
+        Makes(TryLock(OBJECT, Share, Transaction)) => Conflict(0, Exclusive), 0;
     // A list of three rows, and one that grows to four, eight and sixteen.
-    Trial {
-        name: "list, three rows of slots and sixteen of the table",
-        others: READERS,
-        own: 16,
-        waiters: 0,
-        awaited: None,
-        request: Request::Makes(Call::List),
-        answer: Answer::Listed { fast: 3, table: 16 },
-        growths: 4,
-    },
+    "list, three rows of slots and sixteen of the table": READERS 16 0,
+        Makes(List) => Listed(3, 16), 4;
     // One waits for the object of the first one, and the asking session looks at that.
-    Trial {
-        name: "queue, a row",
-        others: ONE,
-        own: 0,
-        waiters: 1,
-        awaited: Some(OBJECT),
-        request: Request::Makes(Call::Queue(OBJECT)),
-        answer: Answer::Rows(1),
-        growths: 1,
-    },
-    Trial {
-        name: "blockers, a row",
-        others: ONE,
-        own: 0,
-        waiters: 1,
-        awaited: Some(OBJECT),
-        request: Request::Makes(Call::Blockers(OBJECT, 4)),
-        answer: Answer::Rows(1),
-        growths: 1,
-    },
-    Trial {
-        name: "waits, one with one in its way",
-        others: ONE,
-        own: 0,
-        waiters: 1,
-        awaited: Some(OBJECT),
-        request: Request::Makes(Call::Waits),
-        answer: Answer::Rows(1),
-        growths: 3,
-    },
-];
+    "queue, a row": ONE 0 1 OBJECT,
+        Makes(Queue(OBJECT)) => Rows(1), 1;
+    "blockers, a row": ONE 0 1 OBJECT,
+        Blockers(OBJECT, 4) => Rows(1), 1;
+    "waits, one with one in its way": ONE 0 1 OBJECT,
+        Makes(Waits) => Rows(1), 3;
+};

@@ -1,5 +1,0 @@
-use Rattle.std.proofs.Common.{◌≡◌}
-use Rattle.refused_memory.proofs.audits.take_counted.Given as goal
-
-abbrev pub invariant-objects : goal.invariant-objects
-invariant-objects g l = g.B.Board.seat l.session.board ≡ g.B.Board.seat l.fn.session.board
