@@ -45,7 +45,7 @@ pub use waiting::Asked;
 pub use waiting_sessions::{Cancelled, Locked, Polled, Started, Waited, Waiting};
 
 // What a program, a proof or a test over any board names.
-pub use crews::{append_session, close_sessions, open_sessions};
+pub use crews::close_sessions;
 pub use desk::{Desk, ManagerDesk};
 pub use keeper::Part;
 pub use lock_table::PartTable;

@@ -1,9 +1,5 @@
-use Rattle.std.proofs.Common.{◌≡◌, List, refl, ◌∙◌, sym, subst}
-use Rattle.local_locks.specs.declared.ends.End.TheVariants.{Close}
-use Rattle.local_locks.specs.Owned.{ended_by}
+use Rattle.std.proofs.Common.{◌≡◌, refl, ◌∙◌, sym, subst}
 use Rattle.shared_rule.specs.Boards.{Seated}
-use Rattle.shared_rule.specs.Quiet.{Quiet}
-use Rattle.lock_manager.specs.Quiet.{QuietOfReleases}
 use Rattle.lock_manager.specs.Rest.{IsAtRest}
 use Rattle.lock_manager.proofs.Lemmas.Rest.Entries.{MayCloseBy-rest, left_by-close}
 use Rattle.lock_manager.proofs.Lemmas.Rest.Stored.{rest-stored}
