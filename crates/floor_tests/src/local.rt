@@ -2,8 +2,6 @@
 
 mod acquires;
 mod growth;
-mod levels;
-mod long_table;
 mod places;
 mod random_calls;
 mod sizes;

@@ -81,26 +81,36 @@ fn the_lowest_mode_in_both_sets_is_found(rt: HostRuntime) {
     );
 }
 
+/// The tag of a relation of a database.
+macro_rules! relation {
+    ($database:literal $relation:literal) => {
+        Tag::Relation {
+            database: $database,
+            relation: $relation,
+        }
+    };
+}
+
+/// The tag of an object of a database, of a class, and the number of its part.
+macro_rules! object {
+    ($database:literal $class:literal $object:literal $sub_object:literal) => {
+        Tag::Object {
+            database: $database,
+            class: $class,
+            object: $object,
+            sub_object: $sub_object,
+        }
+    };
+}
+
 /// Tags, their hashes, partitions and strong lock counters, and their texts. The hashes are worked examples
 /// of the rule, not this code's answers.
 const TAGS: [(Tag, u32, u8, u16, &str); 6] = [
     (OBJECT, 2389211932, 12, 796, "5/16384"),
-    (
-        Tag::Relation {
-            database: 5,
-            relation: 17408,
-        },
-        3334897436,
-        12,
-        796,
-        "5/17408",
-    ),
+    (relation!(5 17408), 3334897436, 12, 796, "5/17408"),
     (SHARED_RELATION, 1165483503, 15, 495, "0/1262"),
     (
-        Tag::Relation {
-            database: 4294967295,
-            relation: 4294967295,
-        },
+        relation!(4294967295 4294967295),
         4265414625,
         1,
         993,
@@ -111,10 +121,7 @@ const TAGS: [(Tag, u32, u8, u16, &str); 6] = [
 ];
 
 /// The tag of a shared relation, which belongs to no one database.
-const SHARED_RELATION: Tag = Tag::Relation {
-    database: 0,
-    relation: 1262,
-};
+const SHARED_RELATION: Tag = relation!(0 1262);
 
 /// The hash of `tag`, its partition, and its strong lock counter.
 fn indexes(tag: Tag) -> (u32, u8, u16) {
@@ -141,36 +148,9 @@ fn tags_have_their_hashes_and_texts(rt: HostRuntime) -> Result<(), Fail> {
 
 /// A tag, and one that is greater.
 const ORDERS: [(Tag, Tag); 3] = [
-    (
-        Tag::Object {
-            database: 5,
-            class: 1,
-            object: 2,
-            sub_object: 3,
-        },
-        Tag::Relation {
-            database: 5,
-            relation: 2,
-        },
-    ),
-    (
-        OBJECT,
-        Tag::Object {
-            database: 5,
-            class: 16384,
-            object: 0,
-            sub_object: 0,
-        },
-    ),
-    (
-        Tag::Object {
-            database: 5,
-            class: 0,
-            object: 42,
-            sub_object: 1,
-        },
-        ADVISORY,
-    ),
+    (object!(5 1 2 3), relation!(5 2)),
+    (OBJECT, object!(5 16384 0 0)),
+    (object!(5 0 42 1), ADVISORY),
 ];
 
 #[test]

@@ -2,5 +2,4 @@
 
 mod calls;
 mod keepers;
-mod many;
 mod rows;

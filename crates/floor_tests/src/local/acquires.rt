@@ -1,8 +1,8 @@
-//! A table to begin with, and the two ways to acquire.
+//! A table to begin with, the two ways to acquire, and the steps of an end.
 
 ghost use Rattle.std.specs.Prelude.{◌≤◌};
 
-use local_locks::{Acquired, LocalTable};
+use local_locks::{Acquired, End, LocalTable};
 use modes_core::{Mode, Owner, Refusal, Tag};
 use std::alloc::Global;
 use std::process::Abort;
@@ -77,4 +77,12 @@ pub fn acquire_in_one_look(
         Err(Refusal::NoMemory) => acquire_once_in_one_look(table, tag, mode, owner),
         answer => answer,
     }
+}
+
+/// The next entry that `end` takes out of `table`.
+pub fn next(rt: &impl Abort, table: &mut LocalTable, end: End) -> Option<(Tag, Mode)> {
+    if end == End::Inner {
+        assert!(rt; table.level() > 1);
+    }
+    table.end_next(end)
 }

@@ -1,7 +1,9 @@
-//! A session that keeps one lock and goes on for long: its table uses slots again, and grows no more.
+//! A session that keeps one lock and goes on for long: its table uses slots again, and grows no more. And one
+//! that takes thousands of locks.
 
-use super::acquires::{acquire, new_table};
-use local_locks::{LocalTable, Unlocked};
+use super::acquires::{acquire, new_table, next};
+use super::turns::entries_of;
+use local_locks::{Acquired, End, LocalTable, Unlocked};
 use modes_core::Mode::AccessShare;
 use modes_core::{Owner, Tag};
 use std::process::Abort;
@@ -56,4 +58,27 @@ fn a_table_that_goes_on_for_long_does_not_grow(rt: HostRuntime) {
     }
     expect_few_slots(&rt, &mut table);
     assert_eq!(rt; table.total(relation(0), AccessShare), 1);
+}
+
+/// How many relations are taken at once.
+const MANY: u32 = 10_000;
+
+/// Acquires many relations in `table`, none of which it has.
+fn take_many(rt: &impl Abort, table: &mut LocalTable) {
+    for number in 0..MANY {
+        let taken = acquire(rt, table, relation(number), AccessShare, Owner::Transaction);
+        assert!(rt; taken == Ok(Acquired::Granted), "{number}");
+    }
+}
+
+#[test]
+fn ten_thousand_relations_are_taken_and_go_in_order(rt: HostRuntime) {
+    let mut table = new_table(&rt, rt.alloc(), 65536);
+    take_many(&rt, &mut table);
+    assert_eq!(rt; entries_of(&table), MANY);
+    for number in 0..MANY {
+        let ended = next(&rt, &mut table, End::Commit);
+        assert!(rt; ended == Some((relation(number), AccessShare)), "{number}");
+    }
+    assert!(rt; next(&rt, &mut table, End::Commit).is_none());
 }

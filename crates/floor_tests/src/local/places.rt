@@ -1,6 +1,8 @@
-//! The index of places: a list of calls, thousands of places, and random calls against a plain list.
+//! The index of places: a list of calls, and random calls against a plain list.
 
 use place_index::PlaceIndex;
+use rand_core::{Rng, SeedableRng};
+use rand_xoshiro::Xoshiro256PlusPlus;
 use std::alloc::Global;
 use std::process::Abort;
 
@@ -130,78 +132,8 @@ fn a_place_is_noted_until_it_is_forgotten_or_all_are_cleared(rt: HostRuntime) {
     play(&rt, &mut index, NOTED_UNTIL_FORGOTTEN_OR_CLEARED.as_slice());
 }
 
-/// The hash of `place`, one of `hashes`.
-fn hash_of(place: u16, hashes: u32) -> u32 {
-    u32::from(place)
-        .wrapping_mul(2_654_435_761)
-        .checked_rem(hashes)
-        .unwrap_or(0)
-}
-
-const MANY: u16 = 3_000;
-
-/// Notes many places in `index`, under `hashes` hashes.
-fn note_many(rt: &impl Abort, index: &mut PlaceIndex, hashes: u32) {
-    for place in 0..MANY {
-        note(rt, index, hash_of(place, hashes), place);
-    }
-}
-
-/// Forgets each second place of `index`, noted under `hashes` hashes: the even ones where `odd` is 0, the odd
-/// ones where it is 1.
-fn forget_half(rt: &impl Abort, index: &mut PlaceIndex, hashes: u32, odd: u16) {
-    for place in 0..MANY {
-        if place % 2 == odd {
-            let was = forget(index, hash_of(place, hashes), place);
-            assert!(rt; was, "{place}");
-        }
-    }
-}
-
-/// Looks in `index` for all places under `hashes` hashes, and ends the test unless just the odd ones are
-/// noted where `odd`, and none otherwise.
-fn find_all(rt: &impl Abort, index: &PlaceIndex, hashes: u32, odd: bool) {
-    for place in 0..MANY {
-        let is = is_noted(index, hash_of(place, hashes), place);
-        assert!(rt; is == (odd && place % 2 == 1), "{place}");
-    }
-}
-
-/// Notes many places in `index` under `hashes` hashes, and forgets the even ones and then the others.
-fn forget_by_halves(rt: &impl Abort, index: &mut PlaceIndex, hashes: u32) {
-    note_many(rt, index, hashes);
-    forget_half(rt, index, hashes, 0);
-    find_all(rt, index, hashes, true);
-    forget_half(rt, index, hashes, 1);
-    find_all(rt, index, hashes, false);
-}
-
-#[test]
-fn thousands_of_hashes(rt: HostRuntime) {
-    let mut index = new_index(&rt, rt.alloc());
-    forget_by_halves(&rt, &mut index, u32::MAX);
-    forget_by_halves(&rt, &mut index, 1_000);
-}
-
-#[test]
-fn few_hashes(rt: HostRuntime) {
-    let mut index = new_index(&rt, rt.alloc());
-    forget_by_halves(&rt, &mut index, 3);
-}
-
 /// For each place the hash that it is noted under, or `None` where it is not noted.
 type Plain = [Option<u32>; 256];
-
-/// Notes all places of a plain list in `index`, and answers the list.
-fn note_all(rt: &impl Abort, index: &mut PlaceIndex) -> Plain {
-    let mut list = [None; 256];
-    for place in 0..256u16 {
-        let hash = u32::from(place) % 40;
-        note(rt, index, hash, place);
-        list[usize::from(place)] = Some(hash);
-    }
-    list
-}
 
 /// A hash by `random`: half of the time `its`, the hash that a place is noted under, if there is one, and
 /// otherwise any.
@@ -239,11 +171,10 @@ fn call_both(rt: &impl Abort, index: &mut PlaceIndex, list: &mut Plain, random: 
 #[test]
 fn random_calls_are_as_on_a_list(rt: HostRuntime) {
     let mut index = new_index(&rt, rt.alloc());
-    let mut list = note_all(&rt, &mut index);
-    let mut random = 1u32;
+    let mut list: Plain = [None; 256];
+    let mut generator = Xoshiro256PlusPlus::seed_from_u64(1);
     for step in 0..20_000u32 {
-        random = random.wrapping_mul(1_664_525).wrapping_add(1_013_904_223);
-        let is_right = call_both(&rt, &mut index, &mut list, random);
+        let is_right = call_both(&rt, &mut index, &mut list, generator.next_u32());
         assert!(rt; is_right, "call {step}");
     }
 }

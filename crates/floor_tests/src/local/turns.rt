@@ -1,7 +1,6 @@
 //! Calls of a local table, and what they are answered: a test is a list of turns.
 
-use super::acquires::acquire;
-use super::levels::next;
+use super::acquires::{acquire, next};
 use local_locks::{Acquired, AtOnce, End, LocalTable, Unlocked};
 use modes_core::{Mode, Owner, Refusal, Tag};
 use std::process::Abort;
@@ -100,7 +99,7 @@ fn ended(answer: Option<(Tag, Mode)>) -> Answer {
 }
 
 /// How many entries `table` has.
-fn count(table: &LocalTable) -> u32 {
+pub fn entries_of(table: &LocalTable) -> u32 {
     let mut number = 0u32;
     for _ in table.entries() {
         number = number.wrapping_add(1);
@@ -124,7 +123,7 @@ fn make(rt: &impl Abort, table: &mut LocalTable, call: Call) -> Answer {
         }
         Call::Total(tag, mode) => Answer::Number(table.total(tag, mode)),
         Call::Next(end) => ended(next(rt, table, end)),
-        Call::Entries => Answer::Number(count(table)),
+        Call::Entries => Answer::Number(entries_of(table)),
     }
 }
 

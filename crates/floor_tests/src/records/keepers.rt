@@ -6,21 +6,14 @@ use super::calls::{Outcome, are_same, ask, release};
 use lock_records::RecordPart;
 use lock_table::{NoMemory, PartTable, PlainPart, TableRow};
 use modes_core::{Mode, SessionId, Tag};
+use rand_core::{Rng, SeedableRng};
+use rand_xoshiro::Xoshiro256PlusPlus;
 use std::alloc::Global;
 use std::process::Abort;
 use std::test::Fail;
 
 /// How many calls are made with both keepers.
 const CALLS: u32 = 100_000;
-
-/// The number after `seed` in a row of numbers that look random (xorshift).
-fn next(seed: u32) -> u32 {
-    let mut x = seed;
-    x ^= x << 13;
-    x ^= x >> 17;
-    x ^= x << 5;
-    x
-}
 
 /// The tag numbered `number` of twelve.
 fn object(number: u32) -> Tag {
@@ -41,24 +34,24 @@ fn session_of(rt: &impl Abort, number: u32) -> SessionId {
     SessionId::new((number % 16) as u16).expect(rt, "a session")
 }
 
-/// Makes the call that `seed` chooses on both keepers, `plain` and `records`, and ends the test unless their
-/// answers are alike.
+/// Makes the call that `random` chooses on both keepers, `plain` and `records`, and ends the test unless
+/// their answers are alike.
 fn call_both(
     rt: &impl Abort,
     plain: &mut PlainPart,
     records: &mut RecordPart,
-    seed: u32,
+    random: u32,
 ) -> Result<(), NoMemory>
     requires plain { plain.old.begun ≡ None }
     requires records { records.old.begun ≡ None }
     ensures plain { plain.new.begun ≡ None }
     ensures records { records.new.begun ≡ None }
 {
-    let tag = object(seed >> 8);
-    let session = session_of(rt, seed >> 16);
-    let mode = mode_of(rt, seed >> 24);
-    let place = (seed % 5) as usize;
-    match seed % 16 {
+    let tag = object(random >> 8);
+    let session = session_of(rt, random >> 16);
+    let mode = mode_of(rt, random >> 24);
+    let place = (random % 5) as usize;
+    match random % 16 {
         0..=4 => {
             let one = ask(plain, session, &tag, mode, Outcome::HoldsBeside)?;
             let other = ask(records, session, &tag, mode, Outcome::HoldsBeside)?;
@@ -134,10 +127,9 @@ fn call_in_turn(
     requires plain { plain.old.begun ≡ None }
     requires records { records.old.begun ≡ None }
 {
-    let mut seed = 20_261_126;
+    let mut generator = Xoshiro256PlusPlus::seed_from_u64(20_261_126);
     'calls: for number in 0..CALLS {
-        seed = next(seed);
-        call_both(rt, plain, records, seed)?;
+        call_both(rt, plain, records, generator.next_u32())?;
         if number % 100 == 99 {
             list_both(rt, alloc, plain, records)?;
         }

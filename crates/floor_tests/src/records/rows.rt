@@ -1,4 +1,4 @@
-//! Two holders and one who waits, and what the records count of them.
+//! Two holders and one who waits, and what the records count of them; many sessions, and many objects.
 
 ghost use Rattle.std.specs.Prelude.{◌≡◌, None, IfOk};
 
@@ -7,8 +7,8 @@ use super::calls::{ask, release};
 use crate::fixtures::{OBJECT, session};
 use lock_records::{Counts, RecordPart};
 use lock_table::{NoMemory, PartTable};
-use modes_core::Mode;
 use modes_core::Mode::{AccessExclusive, AccessShare};
+use modes_core::{Mode, Tag};
 use std::process::Abort;
 use std::test::Fail;
 
@@ -82,5 +82,48 @@ fn all_sessions_hold_and_all_but_one_wait(rt: HostRuntime) -> Result<(), Fail> {
     assert_eq!(&rt; counts.granted_total, 1);
     assert_eq!(&rt; counts.requested_total, 63);
     assert_eq!(&rt; part.held(session(&rt, 1), &OBJECT).mask(), 0x100);
+    Ok(())
+}
+
+/// How many objects are held at once.
+const OBJECTS: u32 = 10_000;
+
+/// The tag of the object numbered `number`. All of them lie in one partition.
+fn object(number: u32) -> Tag {
+    Tag::object(5, 1259, number.wrapping_mul(16), 0)
+}
+
+/// Has the first session hold each object in `part`.
+fn hold_all(rt: &impl Abort, part: &mut RecordPart) -> Result<(), NoMemory>
+    requires none_begun { part.old.begun ≡ None }
+    ensures none_begun { part.new.begun ≡ None }
+{
+    'objects: for number in 0..OBJECTS {
+        let held = ask(
+            part,
+            session(rt, 0),
+            &object(number),
+            AccessExclusive,
+            Holds,
+        )?;
+        assert!(rt; held, "{number}");
+    }
+    Ok(())
+}
+
+#[test]
+fn ten_thousand_objects_lie_in_one_partition(rt: HostRuntime) -> Result<(), Fail> {
+    let mut part = RecordPart::new(rt.alloc())?;
+    hold_all(&rt, &mut part)?;
+    let mut rows = Vec::new(rt.alloc());
+    part.rows(&mut rows)?;
+    assert_eq!(&rt; rows.len(), OBJECTS as usize);
+    for number in 0..OBJECTS {
+        let left = release(&mut part, session(&rt, 0), &object(number), AccessExclusive);
+        assert!(&rt; left, "{number}");
+    }
+    rows.clear();
+    part.rows(&mut rows)?;
+    assert!(&rt; rows.is_empty());
     Ok(())
 }
