@@ -6,6 +6,9 @@ import re
 from kit import rt, sources_of, text_of
 from sources import functions_of, words_of
 
+# A line of an edit that names functions which it has to be refused at: those that stand on a definition or a
+# statement that it changes.
+REFUSED_AT = re.compile(r"^refused at: (.*)$", re.M)
 DECLARED = re.compile(r"\b(?:const|static|struct|enum|type|for)\s+(?:mut\s+)?([A-Za-z_]\w+)")
 
 
@@ -52,13 +55,17 @@ def names_of(own, listed):
 class WrongBody:
     """An edit. `function` is the one whose body alone it changes, as the prover calls it; where it has none,
     `why` says why. Where the edit changes another item of src/, `aims` are the functions that name that
-    item."""
+    item, and where it says at which functions it is refused, these."""
 
     def __init__(self, path, folder, listed):
         self.path, self.name = path, os.path.basename(path)
         self.function, self.aims, self.why = None, [], None
         self.texts, self.why = rt.read_edit(path, folder)
         if self.why:
+            return
+        if said := REFUSED_AT.search(text_of(path)):
+            self.aims = said[1].split(", ")
+            self.why = f"it isn't refused at {said[1]}, or that is no function"
             return
         self.why = "it changes more than one file, or one outside src/"
         if len(self.texts) == 1 and next(iter(self.texts)).startswith("src/"):

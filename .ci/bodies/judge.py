@@ -13,7 +13,7 @@ import subprocess
 import tempfile
 
 from edits import texts_with, names_of
-from kit import rt, sources_of, text_of
+from kit import rt, say, sources_of, text_of
 from sources import functions_of
 
 STUB = """use Rattle.{crate}.proofs.{path}.Statement.{{statement}}
@@ -54,10 +54,12 @@ class Verdict:
                     self.calls = re.findall(rf"`{crate}::([^`]+)`", found[2].partition("it calls")[2])
 
     def read_proof_files(self, lines):
-        folder = f"./proofs/{self.path.replace('::', '/')}/"
+        above, slash, name = self.path.replace("::", "/").rpartition("/")
+        # (functions that call one another have one proof, whose folder has a `+` before the name of one)
+        folders = tuple(f"./proofs/{above}{slash}{plus}{name}/" for plus in ("", "+"))
         for line in lines:
             found = re.match(r"(\S+?):\d+:\d+: error: (.*)", line)
-            if found and found[1].startswith(folder):
+            if found and found[1].startswith(folders):
                 (self.names if NAMES.search(found[2]) else self.goals).append(line.removeprefix("./"))
 
     def read_goals(self, lines, at, name, said):
@@ -72,7 +74,9 @@ class Verdict:
 
     def names_of_its_own(self, crate):
         """Names that the edit took out of the function's own modules."""
-        return [it for it in self.names if f"`Rattle.{crate}.proofs.{self.path.replace('::', '.')}." in it]
+        above, dot, name = self.path.replace("::", ".").rpartition(".")
+        own = re.compile(rf"`Rattle\.{crate}\.proofs\.{re.escape(above + dot)}\+?{re.escape(name)}\.")
+        return [it for it in self.names if own.search(it)]
 
 
 def functions_of_crate(crate):
@@ -261,19 +265,21 @@ class Judge:
         only_names = verdict.is_refused and verdict.names
         why = "only names that its proof files cite" if only_names else verdict.line.partition(": ")[2][:100]
         why = f"({verdict.path}: {why or 'no line'})"
-        print(f"{self.crate.name}/{body.name}: PROVES, or can't be told beside others {why}", flush=True)
+        say(f"{self.crate.name}/{body.name}: PROVES, or can't be told beside others {why}")
         return []
 
     def judge_aimed(self, body):
-        """Judges a wrong body that changes another item, by the functions that name the item. Returns what
-        was found, or None."""
+        """Judges a wrong body that changes another item, by the functions that name the item, and the lemmas
+        that these stand on. Returns what was found, or None."""
         status, lines = self.check(body.texts, body.aims)
         if status != 1 or not ENDED.match(lines[-1]) or any(rt.unread(it, body.texts) for it in lines):
             return None
+        lemmas = [
+            it for it in lines if re.match(r"\./proofs/\S+:\d+:\d+: error: ", it) and not NAMES.search(it)
+        ]
         verdicts = [self.verdict(lines, it) for it in body.aims]
-        return next(
-            (f"{it.path}: {it.goals[0][:200]}" for it in verdicts if it.is_refused and it.goals), None
-        )
+        found = [(it.path, *it.goals, *lemmas) for it in verdicts if it.is_refused]
+        return next((f"{path}: {goals[0][:200]}" for path, *goals in found if goals), None)
 
     def spoiled(self, functions):
         """Checks these functions unchanged in the same surroundings, where each must have no open goal.
@@ -284,9 +290,9 @@ class Judge:
         bad = [it for it in found if it.is_refused or it.goals or it.names or not holds.match(it.line)]
         for it in bad:
             said = f"{it.line} {it.goals[:1]} {it.names[:1]}"
-            print(f"{self.crate.name}: unchanged, and not without open goals: {said}", flush=True)
+            say(f"{self.crate.name}: unchanged, and not without open goals: {said}")
         well = len(functions) - len(bad)
-        print(f"{self.crate.name}: {well} of {len(functions)} functions hold unchanged", flush=True)
+        say(f"{self.crate.name}: {well} of {len(functions)} functions hold unchanged")
         return {it.path for it in bad}
 
 

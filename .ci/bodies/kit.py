@@ -21,6 +21,12 @@ def load_rt():
 rt = load_rt()
 
 
+def say(*lines):
+    """Says these lines at once, whatever else is said beside them."""
+    sys.stdout.write("".join(f"{it}\n" for it in lines))
+    sys.stdout.flush()
+
+
 def text_of(path):
     with open(path, encoding="utf-8") as file:
         return file.read()
