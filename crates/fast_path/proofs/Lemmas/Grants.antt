@@ -1,4 +1,4 @@
-use Rattle.std.proofs.Common.{◌≡◌, ℕ, ◌+◌, ◌<◌, ◌≤◌, ◌^◌, true, false, nat_eq, [], ◌∷◌, ◌++◌, Some, None, refl, sym, ap, ◌∙◌, subst, append_assoc}
+use Rattle.std.proofs.Common.{◌≡◌, ℕ, ◌<◌, ◌≤◌, ◌^◌, true, false, nat_eq, [], ◌∷◌, ◌++◌, Some, None, refl, sym, ap, ◌∙◌, subst, append_assoc}
 use Rattle.std.specs.Prelude.{◌==◌, if◌then◌else◌, IfSome, IfNone}
 use Rattle.std.proofs.lemmas.Bool.{both_ways, and_parts, eq-eqb, cond-true, cond-false}
 use Rattle.modes_core.specs.declared.modes.Mode.{Mode}
@@ -23,7 +23,7 @@ use Rattle.fast_path.specs.Slots.{group_of_tag, top_loads, slot_from_top, accoun
 use Rattle.fast_path.specs.Slots.{NoneInGroup, IsHighestUnused, IsSeenOf, IsSeenUnused, SightsForGrant}
 use Rattle.fast_path.specs.Slots.{count_in, one_more_in, AreCounted, AreUseCounts}
 use Rattle.fast_path.specs.Grants.{GrantsInSlot, HasOwnSlots, HasRoom, without_slots}
-use Rattle.fast_path.proofs.Lemmas.GrantSlots.{counted-granted, exists, in_groups-granted, is, its-takes, its_group, its_relation, more, of_group, unused-takes, within-granted}
+use Rattle.fast_path.proofs.Lemmas.GrantSlots.{counted-granted, exists, in_groups-granted, is, its-takes, unused-takes, within-granted}
 
 -- The counter read as 0, and `loads` slots of the group loaded, from the highest-numbered one down.
 

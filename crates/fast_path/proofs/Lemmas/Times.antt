@@ -6,8 +6,6 @@ use Rattle.std.proofs.lemmas.Bool.{and_parts, and_from, eqb-true, leb-true, le-l
 use Rattle.std.proofs.lemmas.List.Sums.{sum_by-append}
 use Rattle.modes_core.specs.declared.modes.Mode.{Mode}
 use Rattle.modes_core.specs.declared.modes.Mode.TheVariants.{AccessShare, RowShare, RowExclusive}
-use Rattle.modes_core.specs.declared.modes.Mode.TheVariants.{ShareUpdateExclusive, Share, ShareRowExclusive}
-use Rattle.modes_core.specs.declared.modes.Mode.TheVariants.{Exclusive, AccessExclusive}
 use Rattle.modes_core.specs.declared.tags.Tag.{Tag}
 use Rattle.modes_core.specs.declared.tags.Tag.TheVariants.{Relation}
 use Rattle.modes_core.specs.Mode.{number_of, mode_eq}
